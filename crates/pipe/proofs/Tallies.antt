@@ -8,23 +8,8 @@ use lib.ListN.{length, getD, set}
 use lib.Seq.{getD-set-same, getD-set-other}
 use Rattle.pool.proofs.Totals.{total-more}
 use Rattle.pool.specs.Meaning.{only, total}
-use Rattle.pipe.specs.Queue.{count}
 use Rattle.std.proofs.shelf.Tests.{cases-eq}
 use Rattle.std.proofs.shelf.Ways.{tells}
-
-pub count-append : (k : ℕ) (xs : List ℕ) (b : ℕ) → count k (xs ++ b ∷ []) ≡ count k xs + only b 1 k
-unfolding count
-count-append k [] b = refl
-count-append k (x ∷ xs) b = omega (arith, count-append k xs b)
-
--- what a list begins with is in it
-pub first-counted : (b : ℕ) (xs : List ℕ) → 0 < count b (b ∷ xs)
-unfolding count
-first-counted b xs = grind (arith, tells)
-
-pub count-first : (k b : ℕ) (xs : List ℕ) → count k (b ∷ xs) ≡ count k xs + only b 1 k
-unfolding count
-count-first k b xs = refl
 
 -- a table with a count for each byte value, and the count of one of them changed
 module _ (xs : List ℕ) (b : ℕ) (size : length xs ≡ 256) (byte : b < 256) where

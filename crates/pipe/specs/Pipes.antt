@@ -3,9 +3,9 @@ use mathlib.Core.Path.{_≡_}
 use mathlib.Core.List.{List, [], _∷_, _++_}
 use Prim.Native.Nat.{ℕ, _+_, _<_}
 use lib.ListN.{getD, length}
-use Rattle.pool.specs.Meaning.{only}
+use Rattle.pool.specs.Meaning.{only, count}
 use Rattle.pool.specs.Ways.{Ways}
-use Rattle.pipe.specs.Queue.{queue, count}
+use Rattle.pipe.specs.Queue.{queue}
 use Rattle.pipe.specs.declared.state.Pipe.{Pipe}
 
 -- The tokens in the pipe, in the order in which they entered.

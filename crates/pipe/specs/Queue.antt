@@ -2,7 +2,7 @@
 use mathlib.Core.List.{List, [], _∷_}
 use Prim.Native.Nat.{ℕ, zero, suc, _+_, _%_}
 use lib.ListN.{getD}
-use Rattle.pool.specs.Meaning.{only, most-tokens}
+use Rattle.pool.specs.Meaning.{most-tokens}
 
 -- The slot of the ring that is n behind the slot h; the first slot follows the last.
 abbrev pub behind : ℕ → ℕ → ℕ
@@ -12,8 +12,3 @@ behind h n = (h + n) % most-tokens
 unfoldable pub queue : List ℕ → ℕ → ℕ → List ℕ
 queue ring h zero = []
 queue ring h (suc n) = getD ring h 0 ∷ queue ring (behind h 1) n
-
--- How often the byte k stands in a list.
-unfoldable pub count : ℕ → List ℕ → ℕ
-count k [] = 0
-count k (b ∷ bs) = count k bs + only b 1 k

@@ -2,8 +2,8 @@
 ghost use mathlib.Core.Path.{_≡_};
 ghost use Prim.Native.Nat.{ℕ, _+_, _≤_, _<_};
 ghost use lib.ListN.{length, getD};
-ghost use Rattle.pipe.specs.Queue.{queue, count};
-ghost use Rattle.pool.specs.Meaning.{total};
+ghost use Rattle.pipe.specs.Queue.{queue};
+ghost use Rattle.pool.specs.Meaning.{count, total};
 
 #[derive(Drop)]
 pub struct Pipe {

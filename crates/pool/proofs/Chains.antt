@@ -1,14 +1,21 @@
--- Chains of operations end to end. Assumes nothing.
-use mathlib.Core.Path.{_≡_, refl, sym, subst}
+-- Chains of steps end to end. Assumes nothing.
+use mathlib.Core.Path.{_≡_, refl, subst}
 use mathlib.Core.List.{List, [], _∷_, _++_}
-use Rattle.pool.specs.Ways.{Ways}
-use Rattle.pool.specs.Chain.{Op, Did, Chain}
+use Rattle.pool.specs.Chain.{Chain}
 
--- two chains, the second from where the first ended
-pub chain-append : {P : Type 0} (w : Ways P) (os qs : List Op) (p m q : P) → Chain w os p m → Chain w qs m q → Chain w (os ++ qs) p q
-chain-append w [] qs p m q c d = subst (λ x. Chain w qs x q) c d
-chain-append w (o ∷ os) qs p m q c d = (c .0, c .1, chain-append w os qs (c .0) m q (c .2) d)
+module _ {S P : Type 0} (did : S → P → P → Type 0) where
+  -- two chains, the second from where the first ended
+  pub chain-append : (ss ts : List S) (p m q : P) → Chain did ss p m → Chain did ts m q → Chain did (ss ++ ts) p q
+  chain-append [] ts p m q c d = subst (λ x. Chain did ts x q) c d
+  chain-append (s ∷ ss) ts p m q c d = (c .0, c .1, chain-append ss ts (c .0) m q (c .2) d)
 
--- one operation more at the end
-pub chain-more : {P : Type 0} (w : Ways P) (os : List Op) (o : Op) (p m q : P) → Chain w os p m → Did w o m q → Chain w (os ++ o ∷ []) p q
-chain-more w os o p m q c d = chain-append w os (o ∷ []) p m q c (q, d, refl)
+  -- a chain cut in two
+  pub chain-split : (ss ts : List S) (p q : P) → Chain did (ss ++ ts) p q → (m : P) × Chain did ss p m × Chain did ts m q
+  chain-split [] ts p q c = (p, refl, c)
+  chain-split (s ∷ ss) ts p q c =
+      let rest = chain-split ss ts (c .0) q (c .2) in
+      (rest .0, (c .0, c .1, rest .1), rest .2)
+
+  -- one step more at the end
+  pub chain-more : (ss : List S) (s : S) (p m q : P) → Chain did ss p m → did s m q → Chain did (ss ++ s ∷ []) p q
+  chain-more ss s p m q c d = chain-append ss (s ∷ []) p m q c (q, d, refl)

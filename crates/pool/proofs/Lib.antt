@@ -1,2 +1,3 @@
-pub mod Totals
 pub mod Chains
+pub mod Counts
+pub mod Totals

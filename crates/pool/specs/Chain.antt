@@ -18,7 +18,7 @@ Did w (took b) p q = w .gave p b q
 Did w (put-back b) p q = w .back p b q
 Did w (loaded x) p q = w .heard p x q
 
--- The operations, one after the other, led from p to q.
-abbrev pub Chain : {P : Type 0} → Ways P → List Op → P → P → Type 0
-Chain w [] p q = q ≡ p
-Chain {P} w (o ∷ os) p q = (m : P) × Did w o p m × Chain w os m q
+-- These steps, one after the other, led from p to q; `did s p q` says that the step s leads from p to q.
+abbrev pub Chain : {S P : Type 0} → (S → P → P → Type 0) → List S → P → P → Type 0
+Chain did [] p q = q ≡ p
+Chain {S} {P} did (s ∷ ss) p q = (m : P) × did s p m × Chain did ss m q

@@ -1,6 +1,7 @@
 -- What a pool means: a number in and a number out for each byte value, and a number ready.
 use mathlib.Core.Path.{_≡_}
 use mathlib.Core.Bool.{cond}
+use mathlib.Core.List.{List, [], _∷_}
 use Prim.Native.Nat.{ℕ, zero, suc, _+_, _≤_, _<_}
 use lib.Dec.{eqb}
 
@@ -21,6 +22,11 @@ highest-reading = 100000
 -- n at the byte b, and 0 at every other.
 abbrev pub only : ℕ → ℕ → ℕ → ℕ
 only b n k = cond (eqb b k) n 0
+
+-- How often the byte k stands in a list.
+unfoldable pub count : ℕ → List ℕ → ℕ
+count k [] = 0
+count k (b ∷ bs) = count k bs + only b 1 k
 
 -- The sum of f over the numbers below n.
 unfoldable pub sum-below : (ℕ → ℕ) → ℕ → ℕ

@@ -3,11 +3,11 @@ use mathlib.Core.List.{_∷_}
 use Prim.Native.Nat.{ℕ}
 use native.Mathlib.Omega.{arith}
 use lib.ListN.{length, getD, length-append}
+use Rattle.pool.specs.Meaning.{count}
+use Rattle.pool.proofs.Counts.{count-first, count-append}
 use Rattle.pool.proofs.Totals.{total-same}
 use Rattle.pipe.specs.Pipes.{line}
-use Rattle.pipe.specs.Queue.{count}
 use Rattle.pipe.proofs.Rings.{length-queue}
-use Rattle.pipe.proofs.Tallies.{count-first, count-append}
 use Rattle.pipe.proofs.calls.PipeLender.the-impl.Needs as need
 
 pub bounded-law : need.bounded-law

@@ -2,11 +2,11 @@ use mathlib.Core.Path.{sym, ap, refl, _∙_}
 use Prim.Native.Nat.{_+_}
 use native.Mathlib.Omega.{arith}
 use lib.ListN.{getD, length-set}
+use Rattle.pool.proofs.Counts.{count-append}
 use Rattle.pool.proofs.Totals.{total-point}
-use Rattle.pool.specs.Meaning.{only}
-use Rattle.pipe.specs.Queue.{count}
+use Rattle.pool.specs.Meaning.{only, count}
 use Rattle.pipe.proofs.Rings.{entered}
-use Rattle.pipe.proofs.Tallies.{count-append, raised, raised-total}
+use Rattle.pipe.proofs.Tallies.{raised, raised-total}
 use Rattle.pipe.proofs.state.Pipe.enter.Needs as need
 
 pub add-self-3 : need.add-self-3

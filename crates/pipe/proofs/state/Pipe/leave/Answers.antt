@@ -3,10 +3,12 @@ use mathlib.Core.List.{_∷_}
 use Prim.Native.Nat.{_-_, _<_}
 use native.Mathlib.Omega.{arith}
 use lib.ListN.{getD, length-set}
-use Rattle.pipe.specs.Queue.{count, queue, behind}
+use Rattle.pool.specs.Meaning.{count}
+use Rattle.pool.proofs.Counts.{count-first, first-counted}
+use Rattle.pipe.specs.Queue.{queue, behind}
 use Rattle.pipe.specs.declared.state.Pipe.{Pipe}
 use Rattle.pipe.proofs.Rings.{left}
-use Rattle.pipe.proofs.Tallies.{count-first, first-counted, lowered, lowered-total}
+use Rattle.pipe.proofs.Tallies.{lowered, lowered-total}
 use Rattle.pipe.proofs.state.Pipe.leave.Needs as need
 
 -- the first byte of the line is counted

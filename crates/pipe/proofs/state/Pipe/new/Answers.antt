@@ -3,9 +3,9 @@ use mathlib.Core.List.{List}
 use Prim.Native.Nat.{ℕ, zero, suc}
 use lib.Dec.{lit<, lit≤}
 use lib.ListN.{getD, replicate}
-use Rattle.pool.specs.Meaning.{total}
+use Rattle.pool.specs.Meaning.{count, total}
 use Rattle.pool.proofs.Totals.{total-same, total-none}
-use Rattle.pipe.specs.Queue.{queue, count}
+use Rattle.pipe.specs.Queue.{queue}
 use Rattle.pipe.proofs.state.Pipe.new.Needs as need
 
 abbrev zeros : ℕ → List ℕ
