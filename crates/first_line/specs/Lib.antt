@@ -1,0 +1,4 @@
+pub mod Cuts
+pub mod Head
+pub mod Numbers
+pub mod Shown
