@@ -1,6 +1,7 @@
 // The load limit: a layer that lends nothing while the load is high.
 ghost use mathlib.Core.Path.{_≡_};
 ghost use Prim.Native.Nat.{min, max};
+ghost use lib.Dec.{leb};
 ghost use Rattle.pool.specs.Meaning.{highest-reading};
 ghost use Rattle.layers.specs.LoadLimits.{limit-ways};
 use pool::HIGHEST_READING;
@@ -29,13 +30,20 @@ impl<P> LoadLimit<P> {
             reading: 0,
         }
     }
+
+    // Whether the last reading is at least the limit.
+    fn is_reached(&self) -> bool
+        ensures { λ r. ⌜ r ≡ leb (now (self .entry) .limit) (now (self .entry) .reading) ⌝ }
+    {
+        self.limit <= self.reading
+    }
 }
 
 pub impl<P: Pool> Lender for LoadLimit<P> as LoadLimitLender {
     ghost ways = { limit-ways (P·Lender .ways) };
 
     fn take(&mut self) -> Option<u8> {
-        if self.limit <= self.reading {
+        if self.is_reached() {
             return None;
         }
         self.below.take()
@@ -66,7 +74,7 @@ pub impl<P: Pool> Pool for LoadLimit<P> as LoadLimitPool {
     }
 
     fn ready(&self) -> u32 {
-        if self.limit <= self.reading {
+        if self.is_reached() {
             return 0;
         }
         self.below.ready()
