@@ -4,7 +4,7 @@ ghost use mathlib.Core.List.{[], _∷_, _++_};
 ghost use Prim.Native.Nat.{_+_, _<_};
 ghost use lib.ListN.{length};
 ghost use Rattle.pool.specs.Ways.{Fill};
-ghost use Rattle.pipe.specs.Pipes.{All-in, line, pipe-ways};
+ghost use Rattle.pipe.specs.Pipes.{All-in, line, out, pipe-ways};
 use crate::state::Pipe;
 use pool::Lender;
 use pool::MOST_TOKENS;
@@ -72,28 +72,51 @@ impl Pipe {
         self.ins[b as usize] -= 1;
         b
     }
+
+    // How many tokens stand in line.
+    fn waiting(&self) -> u32
+        ensures { λ r. ⌜ r ≡ length (line (now (self .entry))) ⌝ }
+    {
+        self.len as u32
+    }
+
+    // Hands out the first token of the line.
+    fn lend(&mut self) -> u8
+        requires { ⌜ 0 < length (line (now self)) ⌝ }
+        ensures { λ r. ⌜ pipe-ways .gave (now (self .entry)) r (now (self .exit)) ⌝ }
+    {
+        let b = self.leave();
+        self.outs[b as usize] += 1;
+        self.total_out += 1;
+        b
+    }
+
+    // Takes back a token that was handed out.
+    fn regain(&mut self, b: u8)
+        requires { ⌜ 0 < out (now self) b ⌝ }
+        ensures { λ _. ⌜ pipe-ways .back (now (self .entry)) b (now (self .exit)) ⌝ }
+    {
+        self.outs[b as usize] -= 1;
+        self.total_out -= 1;
+        self.enter(b);
+    }
 }
 
 pub impl Lender for Pipe as PipeLender {
     ghost ways = { pipe-ways };
 
     fn take(&mut self) -> Option<u8> {
-        if self.len == 0 {
+        if self.waiting() == 0 {
             return None;
         }
-        let b = self.leave();
-        self.outs[b as usize] += 1;
-        self.total_out += 1;
-        Some(b)
+        Some(self.lend())
     }
 
     fn put(&mut self, b: u8) -> Result<(), Refusal> {
-        if self.outs[b as usize] == 0 {
+        if self.count_out(b) == 0 {
             return Err(Refusal::NotOut);
         }
-        self.outs[b as usize] -= 1;
-        self.total_out -= 1;
-        self.enter(b);
+        self.regain(b);
         Ok(())
     }
 
@@ -116,6 +139,6 @@ pub impl Pool for Pipe as PipePool {
     }
 
     fn ready(&self) -> u32 {
-        self.len as u32
+        self.waiting()
     }
 }

@@ -5,7 +5,7 @@ use lib.ListN.{getD, length-set}
 use Rattle.pool.proofs.Totals.{total-point}
 use Rattle.pipe.specs.declared.state.Pipe.{Pipe}
 use Rattle.pipe.proofs.Tallies.{lowered-total}
-use Rattle.pipe.proofs.calls.PipeLender.put.Needs as need
+use Rattle.pipe.proofs.state.Pipe.regain.Needs as need
 
 -- a byte that is out is one of all that are out
 some-out : (p : Pipe) (b : ℕ) → b < 256 → 0 < getD (p .outs) b 0 → 0 < p .«total_out»

@@ -1,13 +1,13 @@
-use mathlib.Core.Path.{refl, _∙_}
+use mathlib.Core.Path.{_∙_}
 use native.Mathlib.Omega.{arith}
 use lib.ListN.{getD, length-set}
 use Rattle.pool.proofs.Totals.{total-point}
 use Rattle.pipe.proofs.Rings.{length-queue}
 use Rattle.pipe.proofs.Tallies.{raised-total}
-use Rattle.pipe.proofs.calls.PipeLender.take.Needs as need
+use Rattle.pipe.proofs.state.Pipe.lend.Needs as need
 
-pub returns-then-self-eq0 : need.returns-then-self-eq0
-returns-then-self-eq0 c = let p = c .args .self .now in (omega (arith, length-queue (p .ring) (p .head) (p .len)), refl)
+pub leave-b-requires : need.leave-b-requires
+leave-b-requires c κs = let p = c .args .self .now in omega (arith, length-queue (p .ring) (p .head) (p .len), c .pre)
 
 pub add-self : need.add-self
 add-self c =
