@@ -1,7 +1,7 @@
 // Making a pipe, and its calls as a pool.
 ghost use mathlib.Core.Path.{_≡_};
 ghost use mathlib.Core.List.{[], _∷_, _++_};
-ghost use Prim.Native.Nat.{_+_, _<_};
+ghost use Prim.Native.Nat.{_+_, _≤_, _<_};
 ghost use lib.ListN.{length};
 ghost use Rattle.pool.specs.Ways.{Fill};
 ghost use Rattle.pipe.specs.Pipes.{All-in, line, out, pipe-ways};
@@ -37,12 +37,20 @@ impl Pipe {
         if tokens.len() > SLOTS {
             return Err(Refusal::TooManyTokens);
         }
-        let mut filled = Pipe::new();
-        for b in tokens {
-            filled.enter(*b);
-        }
-        *self = filled;
+        *self = Pipe::filled(tokens);
         Ok(())
+    }
+
+    // A pipe with these tokens in, entered from first to last.
+    fn filled(tokens: &[u8]) -> Pipe
+        requires { ⌜ length (now tokens) ≤ 63 ⌝ }
+        ensures { λ r. ⌜ All-in (now (tokens .entry)) r ⌝ }
+    {
+        let mut pipe = Pipe::new();
+        for b in tokens {
+            pipe.enter(*b);
+        }
+        pipe
     }
 
     // One token more at the end of the line.

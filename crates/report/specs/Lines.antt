@@ -21,6 +21,6 @@ abbrev pub event-lines : List Event → List ℕ
 event-lines [] = []
 event-lines (e ∷ es) = event-line e ++ event-lines es
 
--- The line of a refusal: its number, and the line 0.
-abbrev pub refusal-line : ℕ → List ℕ
-refusal-line n = codes "refused " ++ (decimal n ++ (codes " 0" ++ (10 ∷ [])))
+-- The line of a refusal: its number, and the line that it is about, 0 for the first line of the input.
+abbrev pub refusal-line : ℕ → ℕ → List ℕ
+refusal-line number line = codes "refused " ++ (decimal number ++ (codes " " ++ (decimal line ++ (10 ∷ []))))

@@ -53,10 +53,10 @@ pub fn event_lines(heap: Global, events: &[Event]) -> Result<Vec<u8>, AllocError
     Ok(text)
 }
 
-// The line of a refusal of the first line.
-pub fn refusal_line(heap: Global, number: u32) -> Result<Vec<u8>, AllocError>
-    ensures result { λ r. ⌜ made r (λ v. vec-items v ≡ refusal-line number) ⌝ }
+// The line of a refusal: its number, and the line that it is about.
+pub fn refusal_line(heap: Global, number: u32, line: usize) -> Result<Vec<u8>, AllocError>
+    ensures result { λ r. ⌜ made r (λ v. vec-items v ≡ refusal-line number line) ⌝ }
 {
-    let line = format!(heap, "refused {number} 0\n")?;
-    Vec::from_slice(heap, line.as_bytes())
+    let text = format!(heap, "refused {number} {line}\n")?;
+    Vec::from_slice(heap, text.as_bytes())
 }

@@ -1,0 +1,9 @@
+pub mod Onward
+pub mod Bodies
+pub mod Runs
+pub mod Sound
+pub mod Inverse
+pub mod Complete
+pub mod Limits
+pub mod Texts
+pub mod Exactly

@@ -1,0 +1,5 @@
+pub mod Values
+pub mod Reading
+pub mod Steps
+pub mod Grammar
+pub mod Script

@@ -1,0 +1,4 @@
+pub mod Push
+pub mod Facts
+pub mod Said
+pub mod Below

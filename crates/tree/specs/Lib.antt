@@ -1,0 +1,5 @@
+pub mod Nodes
+pub mod Kept
+pub mod Questions
+pub mod Growth
+pub mod Grown
