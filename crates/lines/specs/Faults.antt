@@ -24,7 +24,7 @@ pub record Fault : Type 0 where
   pub layer : Layer
   pub place : Place
 
--- word for 2, 4 and 5, line for 3, tree for the rest
+-- the layer that finds a fault: 2, 4 and 5 are of a word, 3 is of a line, all others are of the tree
 abbrev pub layer-of : ℕ → Layer
 layer-of n = cond (eqb n 2 || (eqb n 4 || eqb n 5)) Word (cond (eqb n 3) Line Tree)
 

@@ -9,9 +9,9 @@ use native.Mathlib.Omega.{arith}
 use lib.Dec.{eqb, leb}
 use lib.ListN.{length, drop, getD}
 use Rattle.std.proofs.shelf.Lists.{drop-more, drop-all, drop-drop, append-assoc, length-append, length-drop, getD-read-under}
-use Rattle.std.proofs.shelf.Tests.{cases-bool, cases-lt, leb-true, leb-false, le-leb, lt-leb, eq-eqb, ne-eqb}
+use Rattle.std.proofs.shelf.Tests.{cases-bool, cases-lt, both-ways, leb-true, leb-false, le-leb, lt-leb, eq-eqb, ne-eqb}
 use Rattle.tree.specs.declared.node.Node.{Node}
-use Rattle.tree.specs.Nodes.{at, top, total}
+use Rattle.tree.specs.Nodes.{at, top, total, is-make}
 use Rattle.tree.specs.Kept.{Placed, Topped}
 use Rattle.tree.specs.Questions.{front-of, belonging}
 
@@ -142,3 +142,26 @@ not-behind ns placed topped n next len x ex lt ok le =
     (λ z. omega (arith, ap (λ y. y .make) is, placed next (z, omega arith) .0))
     (λ z. let zero-next : next ≡ 0 = omega arith in omega (arith, ap (λ y. y .make) is, ap (λ k. at ns k .make) zero-next, topped .1))
     (cases-lt 0 next)
+
+-- no node belongs to a job
+pub job-childless : (ns : List Node) (m : ℕ) → Placed ns → is-make ns m ≡ false → (xs : List Node) (k : ℕ) → 0 < k → drop k ns ≡ xs → belonging m k xs ≡ []
+unfolding belonging
+job-childless ns m placed no-make [] k pos e = refl
+job-childless ns m placed no-make (x ∷ xs) k pos e =
+    let lt : k < length ns = omega (arith, ap length e, length-drop k ns) in
+    let split : at ns k ∷ drop (k + 1) ns ≡ x ∷ xs = sym (drop-more ns k top lt) ∙ e in
+    let is : at ns k ≡ x = cc in
+    let more : drop (k + 1) ns ≡ xs = cc in
+    let apart : x .make ≡ m → ⊥ = λ same. both-ways (is-make ns m) no-make (ap (is-make ns) (sym same) ∙ ap (λ y. is-make ns (y .make)) (sym is) ∙ placed k (pos, lt) .1) in
+    ap (λ b. cond b (k ∷ belonging m (k + 1) xs) (belonging m (k + 1) xs)) (ne-eqb (x .make) m apart) ∙
+    job-childless ns m placed no-make xs (k + 1) (omega arith) more
+
+front-all : (xs : List Node) → front-of 0 xs ≡ xs
+front-all [] = front-none 0
+front-all (x ∷ xs) = front-in 0 x xs (omega arith) ∙ ap (λ l. x ∷ l) (front-all xs)
+
+-- all nodes are below the top make
+pub whole-subtree : (ns : List Node) → 0 < length ns → at ns 0 .steps + total (front-of 0 (drop 1 ns)) ≡ total ns
+unfolding total
+whole-subtree [] h = absurd (omega arith)
+whole-subtree (x ∷ xs) h = ap (λ l. x .steps + total l) (front-all xs)

@@ -17,7 +17,7 @@ use Rattle.tree.specs.declared.node.Node.{Node}
 use Rattle.tree.specs.declared.questions.Unanswered.{Unanswered}
 use Rattle.tree.specs.declared.questions.Unanswered.the-variants.{NotInTree, NoMemory}
 use Rattle.tree.specs.declared.tree.Tree.{Tree}
-use Rattle.tree.specs.Nodes.{top, at, total}
+use Rattle.tree.specs.Nodes.{top, at, is-make, total}
 
 -- the nodes in script order
 abbrev pub nodes-of : Tree → List Node
@@ -52,7 +52,7 @@ unfoldable pub belonging : ℕ → ℕ → List Node → List ℕ
 belonging m k [] = []
 belonging m k (x ∷ xs) = let rest = belonging m (k + 1) xs in cond (eqb (x .make) m) (k ∷ rest) rest
 
--- the children of make m in order; a job has none, since no node belongs to it
+-- the children of make m in order
 abbrev pub children-of : Tree → ℕ → List ℕ
 children-of t m = belonging m 1 (drop 1 (nodes-of t))
 
@@ -99,3 +99,11 @@ abbrev pub Listed : Tree → ℕ → Result (Vec ℕ) Unanswered → Type 0
 Listed t n (Ok v) = (n < count-of t) × (vec-items v ≡ children-of t n)
 Listed t n (Err NotInTree) = count-of t ≤ n
 Listed t n (Err NoMemory) = n < count-of t
+
+-- no node belongs to a job
+abbrev pub Childless-job : Tree → ℕ → Type 0
+Childless-job t n = is-make (nodes-of t) n ≡ false → children-of t n ≡ []
+
+-- the whole tree is the subtree of the top make
+abbrev pub Whole-subtree : Tree → Type 0
+Whole-subtree t = subtree-of t 0 ≡ total-of t

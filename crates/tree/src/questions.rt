@@ -6,7 +6,7 @@ ghost use Rattle.std.specs.Vec.{made};
 ghost use Rattle.tree.specs.Nodes.{total};
 ghost use Rattle.tree.specs.Questions.{count-of, kind-of, make-of, level-of, steps-of, wait-of, total-of, schedule-of, number-of, asked};
 ghost use Rattle.tree.specs.declared.questions.Unanswered.the-variants.{NoMemory};
-ghost use Rattle.tree.specs.Questions.{nodes-of, fresh, front-of, subtree-of, Listed};
+ghost use Rattle.tree.specs.Questions.{nodes-of, fresh, front-of, subtree-of, Listed, Childless-job, Whole-subtree};
 use crate::node::Kind;
 use crate::node::KindPartialEq;
 use crate::node::Node;
@@ -129,6 +129,7 @@ impl Tree {
     // The children of a make in order; a job has none.
     pub fn children(&self, heap: Global, n: u32) -> Result<Vec<u32>, Unanswered>
         ensures result { λ r. ⌜ Listed (now (self .entry)) n r ⌝ }
+        ensures law { λ r. ⌜ Childless-job (now (self .entry)) n ⌝ }
     {
         if n as usize >= self.nodes.len() {
             return Err(Unanswered::NotInTree);
@@ -151,6 +152,7 @@ impl Tree {
     // The steps of the node and of all nodes below it.
     pub fn subtree_steps(&self, n: u32) -> Result<u32, Unanswered>
         ensures result { λ r. ⌜ r ≡ asked (now (self .entry)) n (subtree-of (now (self .entry)) n) ⌝ }
+        ensures law { λ r. ⌜ Whole-subtree (now (self .entry)) ⌝ }
     {
         if n as usize >= self.nodes.len() {
             return Err(Unanswered::NotInTree);
