@@ -1,0 +1,12 @@
+use mathlib.Core.Path.{refl}
+use Rattle.first_line.specs.Cuts.{cut-at, all-show}
+use Rattle.lines.specs.Words.{parts}
+use Rattle.script.specs.Reading.{read-parts}
+use Rattle.std.specs.Written.{digits}
+use Rattle.tree.specs.Nodes.{total}
+use Rattle.rules.proofs.Agreeing.{pipes, semaphores}
+use Rattle.rules.proofs.cases.worked_cases.Needs as need
+
+pub returns : need.returns
+unfolding cut-at all-show parts read-parts total digits
+returns c = record { law = refl; pipes = pipes; semaphores = semaphores }

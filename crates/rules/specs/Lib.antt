@@ -1,0 +1,12 @@
+pub mod Lists
+pub mod Plans
+pub mod Builds
+pub mod Startable
+pub mod Settling
+pub mod Ending
+pub mod Calls
+pub mod Stores
+pub mod Cases
+pub mod Agreement
+pub mod Words
+pub mod Settled

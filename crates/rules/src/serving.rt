@@ -1,0 +1,15 @@
+// Who is served, in the words of the rule.
+ghost use Rattle.rules.specs.Builds.{Build};
+ghost use Rattle.rules.specs.Settled.{Settling-is-so};
+ghost use Rattle.rules.specs.Words.{Served};
+
+// In every build: the child that may start is found, and no other; implicit slots are used from the lowest make on,
+// a token is asked for only when no slot can be used, and then by the lowest make that may start a child.
+pub fn makes_are_served()
+    ensures law { λ _. ⌜ ((b : Build) → Served b) ⌝ }
+{}
+
+// Settling is a row of such starts on every pool, and ends just when no token comes or nothing may start.
+pub fn settling_is_so<P>()
+    ensures law { λ _. ⌜ Settling-is-so P ⌝ }
+{}
