@@ -1,3 +1,4 @@
 pub mod Agreeing
 pub mod Searches
 pub mod Starts
+pub mod Backs

@@ -31,10 +31,17 @@ noted x r = record { build = r .build; pool = r .pool; records = x ∷ r .record
 abbrev pub on-build : {P : Type 0} → (Build → Build) → Run P → Run P
 on-build f r = record { build = f (r .build); pool = r .pool; records = r .records }
 
--- a build of the tree on a pool with so many tokens in: the top make is live, and the build settles
+-- a fresh build of the tree on a pool with so many tokens in: the top make is live
+abbrev pub opening : {P : Type 0} → Plan → Bool → ℕ → P → Run P
+opening t keep tokens p = record {
+  build = in-state (begun-on t keep) 0 Running;
+  pool = p;
+  records = Open (tokens + 1) (bit keep) (t .nodes) ∷ [];
+}
+
+-- it is opened, and settles
 abbrev pub open-run : {P : Type 0} → Store P → Plan → Bool → ℕ → P → Run P
-open-run store t keep tokens p =
-    settle store (record { build = in-state (begun-on t keep) 0 Running; pool = p; records = Open (tokens + 1) (bit keep) (t .nodes) ∷ [] })
+open-run store t keep tokens p = settle store (opening t keep tokens p)
 
 -- how a job ends after its last step
 abbrev pub last-step : Kind → State

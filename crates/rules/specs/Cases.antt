@@ -4,7 +4,7 @@ use mathlib.Core.Path.{_≡_}
 use mathlib.Core.List.{List, [], _∷_, _++_, map, reverse}
 use Prim.Native.Nat.{ℕ}
 use lib.Chars.{codes}
-use lib.ListN.{length}
+use lib.ListN.{length, replicate}
 use Rattle.first_line.specs.Head.{Choice, a-pipe, a-semaphore, Head, head}
 use Rattle.first_line.specs.declared.types.Refusal.{Refusal}
 use Rattle.lines.specs.Faults.{Fault}
@@ -18,6 +18,8 @@ use Rattle.schedule.specs.declared.record.Record.{Record}
 use Rattle.script.specs.Reading.{read-text}
 use Rattle.std.specs.declared.result.Result.{Result}
 use Rattle.std.specs.declared.result.Result.the-variants.{Ok, Err}
+use Rattle.tree.specs.Nodes.{top}
+use Rattle.tree.specs.declared.node.Kind.the-variants.{Job}
 use Rattle.tree.specs.declared.node.Node.{Node}
 
 -- lines of a text, each ended by byte 10
@@ -87,6 +89,12 @@ limited reading = shown (open-run (limit-store 150 reading pipe-store) plan-z fa
 -- the tree opened on an empty pipe
 abbrev pub empty-opened : Run (Stock (List ℕ))
 empty-opened = open-run pipe-store plan-z false 0 (record { held = []; out = 0 })
+
+-- 49 jobs of 10 steps under the top make, on a pipe of three tokens: how many records the whole run has
+abbrev pub wide-run : ℕ
+wide-run =
+    let t = plan-of (top ∷ replicate 49 (record { kind = Job; make = 0; level = 0; steps = 10; wait = false })) in
+    length (rounds-run pipe-store (open-run pipe-store t false 3 (record { held = codes "xyz"; out = 0 })) .records)
 
 -- a run, and what it must come to
 pub record Row : Type 0 where
@@ -166,6 +174,13 @@ rows =
     record {
       got = fault-of (read-text (codes "done" ++ 10 ∷ []));
       want = 9 ∷ 1 ∷ 0 ∷ [];
+    }
+    ∷
+    -- a larger run: `O` and `D`, an `A` for the first job and a `T` for each of the other 48, an `R` for each `T`,
+    -- 490 times `S`, and an `E` for each of the 50 nodes
+    record {
+      got = wide-run ∷ [];
+      want = 639 ∷ [];
     }
     ∷ []
 

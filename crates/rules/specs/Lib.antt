@@ -10,3 +10,4 @@ pub mod Cases
 pub mod Agreement
 pub mod Words
 pub mod Settled
+pub mod Returns

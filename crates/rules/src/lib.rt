@@ -9,3 +9,4 @@ pub use progress::Progress;
 pub use progress::State;
 pub use serving::makes_are_served;
 pub use serving::settling_is_so;
+pub use serving::tokens_go_back;

@@ -1,5 +1,6 @@
 // Who is served, in the words of the rule.
 ghost use Rattle.rules.specs.Builds.{Build};
+ghost use Rattle.rules.specs.Returns.{Returned};
 ghost use Rattle.rules.specs.Settled.{Settling-is-so};
 ghost use Rattle.rules.specs.Words.{Served};
 
@@ -12,4 +13,9 @@ pub fn makes_are_served()
 // Settling is a row of such starts on every pool, and ends just when no token comes or nothing may start.
 pub fn settling_is_so<P>()
     ensures law { λ _. ⌜ Settling-is-so P ⌝ }
+{}
+
+// In every call on every pool, a token goes back directly behind the end of a child of its make.
+pub fn tokens_go_back<P>()
+    ensures law { λ _. ⌜ Returned P ⌝ }
 {}
