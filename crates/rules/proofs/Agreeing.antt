@@ -63,7 +63,7 @@ semaphores = record {
 }
 
 -- a test that came out so
-taken-so : {A : Type 0} (t : Bool) (x y : Unit {0} → A) → t ≡ true → if-so t x y ≡ x tt
+pub taken-so : {A : Type 0} (t : Bool) (x y : Unit {0} → A) → t ≡ true → if-so t x y ≡ x tt
 taken-so t x y e = ap (λ u. if-so u x y) e
 
 not-so : {A : Type 0} (t : Bool) (x y : Unit {0} → A) → t ≡ false → if-so t x y ≡ y tt

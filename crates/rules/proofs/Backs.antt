@@ -5,13 +5,14 @@ use mathlib.Core.List.{List, [], _∷_}
 use Prim.Native.Nat.{ℕ, zero, suc}
 use Rattle.rules.specs.Builds.{Build, Held, running-jobs, with-node, finished, at}
 use Rattle.rules.specs.Calls.{noted, on-build, opening, step-run, kill-run, poll-run, halt-run, rounds-run, rounds-by, step-each, end-all, last-step, stop-all, stop, stepped}
-use Rattle.rules.specs.Ending.{put-found, put-one, goes-back, mark, ends-so, finish, end-by, end-node, make-end, is-over, note-loss}
+use Rattle.rules.specs.Ending.{put-found, put-one, goes-back, mark, ends-so, finish, end-by, end-node, make-end, is-over}
 use lib.Dec.{eqb}
 use Rattle.rules.specs.Lists.{if-so, is-some}
-use Rattle.rules.specs.Plans.{Plan, is-make, all-makes}
+use Rattle.rules.specs.Plans.{Plan, all-makes}
 use Rattle.rules.specs.Returns.{Ends-child, May-follow, Returns, Keeps, Returned}
-use Rattle.rules.specs.Settling.{Store, Run, Start, next-in-slot, next-with-token, start-in-slot, start-with-token, taken, try-token, try-slot, settle-by, settle}
+use Rattle.rules.specs.Settling.{Store, Run, start-in-slot, start-with-token, settle}
 use Rattle.rules.specs.Words.{is-ended}
+use Rattle.rules.proofs.Held.{if-holds, settle-holds}
 use Rattle.rules.specs.declared.progress.Progress.{Progress}
 use Rattle.rules.specs.declared.progress.State.{State}
 use Rattle.rules.specs.declared.progress.State.the-variants.{Waiting, Running, Good, Failed}
@@ -23,23 +24,19 @@ use Rattle.std.proofs.shelf.Tests.{false≢true}
 use Rattle.tree.specs.declared.node.Kind.{Kind}
 use Rattle.tree.specs.declared.node.Kind.the-variants.{Make, Job, Fail}
 
-note-plan : (t : Bool) (n : ℕ) (ts : List ℕ) (b : Build) → note-loss t n ts b .plan ≡ b .plan
-note-plan true n ts b = refl
-note-plan false n ts b = refl
-
-make-ended : (x : Progress) → is-ended (make-end x) ≡ true
+pub make-ended : (x : Progress) → is-ended (make-end x) ≡ true
 make-ended x = either (is-some (x .«first_failed»))
   where
     either : (t : Bool) → is-ended (cond t (Failed causes.FailedChild) Good) ≡ true
     either true = refl
     either false = refl
 
-last-ended : (k : Kind) → is-ended (last-step k) ≡ true
+pub last-ended : (k : Kind) → is-ended (last-step k) ≡ true
 last-ended Make = refl
 last-ended Job = refl
 last-ended Fail = refl
 
-stop-plan : (ms : List ℕ) (b : Build) → stop-all ms b .plan ≡ b .plan
+pub stop-plan : (ms : List ℕ) (b : Build) → stop-all ms b .plan ≡ b .plan
 stop-plan [] b = refl
 stop-plan (m ∷ ms) b = stop-plan ms (with-node b m (stop (at b m)))
 
@@ -50,33 +47,11 @@ module _ {P : Type 0} where
   keeps-both : (r r₁ r₂ : Run P) → Keeps r r₁ → Keeps r₁ r₂ → Keeps r r₂
   keeps-both r r₁ r₂ f g = (g .0 ∙ f .0, λ h. subst (λ t. Returns t (r₂ .records)) (f .0) (g .1 (subst (λ t. Returns t (r₁ .records)) (sym (f .0)) (f .1 h))))
 
-  -- one of two ways
-  keeps-if : (r : Run P) (t : Bool) (x y : Unit {0} → Run P) → Keeps r (x tt) → Keeps r (y tt) → Keeps r (if-so t x y)
-  keeps-if r true x y f g = f
-  keeps-if r false x y f g = g
-
-  keeps-slot : (s : Start) (r : Run P) → Keeps r (start-in-slot s r)
-  keeps-slot s r = (refl, λ h. (tt, h))
-
   module _ (store : Store P) where
-    keeps-taken : (s : Start) (o : Option ℕ) (p : P) (r : Run P) (onward : Run P → Run P) → ((q : Run P) → Keeps q (onward q)) → Keeps r (taken s o p r onward)
-    keeps-taken s None p r onward k = (refl, λ h. h)
-    keeps-taken s (Some byte) p r onward k = keeps-both r (start-with-token s byte p r) (onward (start-with-token s byte p r)) (refl, λ h. (tt, h)) (k (start-with-token s byte p r))
-
-    keeps-token : (o : Option Start) (r : Run P) (onward : Run P → Run P) → ((q : Run P) → Keeps q (onward q)) → Keeps r (try-token store o r onward)
-    keeps-token None r onward k = keeps-same r
-    keeps-token (Some s) r onward k = keeps-taken s (store .take (r .pool) .0) (store .take (r .pool) .1) r onward k
-
-    keeps-try : (o : Option Start) (r : Run P) (onward : Run P → Run P) → ((q : Run P) → Keeps q (onward q)) → Keeps r (try-slot store o r onward)
-    keeps-try (Some s) r onward k = keeps-both r (start-in-slot s r) (onward (start-in-slot s r)) (keeps-slot s r) (k (start-in-slot s r))
-    keeps-try None r onward k = keeps-token (next-with-token (r .build)) r onward k
-
-    keeps-settle-by : (n : ℕ) (r : Run P) → Keeps r (settle-by store n r)
-    keeps-settle-by zero r = keeps-same r
-    keeps-settle-by (suc n) r = keeps-try (next-in-slot (r .build)) r (settle-by store n) (keeps-settle-by n)
-
     keeps-settle : (r : Run P) → Keeps r (settle store r)
-    keeps-settle r = keeps-settle-by (r .build .plan .nodes) r
+    keeps-settle r =
+        settle-holds store (Keeps r) (λ s q h. keeps-both r q (start-in-slot s q) h (refl, λ x. (tt, x)))
+        (λ s b p q h. keeps-both r q (start-with-token s b p q) h (refl, λ x. (tt, x))) (λ p q h. h) r (keeps-same r)
 
     -- an end and the token that it brings back
     keeps-found : (how : State) (n : ℕ) (r : Run P) (o : Option (ℕ × List Held)) → is-ended how ≡ true → Keeps r (put-found store (r .build .plan .make n) o (ends-so how n r))
@@ -84,14 +59,14 @@ module _ {P : Type 0} where
     keeps-found Running n r o e = absurd (false≢true e)
     keeps-found Good n r None e = (refl, λ h. (tt, h))
     keeps-found Good n r (Some x) e = (refl, λ h. (refl, (tt, h)))
-    keeps-found (Failed c) n r None e = (note-plan (is-make (r .build .plan) n) n _ _, λ h. (tt, h))
-    keeps-found (Failed c) n r (Some x) e = (note-plan (is-make (r .build .plan) n) n _ _, λ h. (refl, (tt, h)))
+    keeps-found (Failed c) n r None e = (refl, λ h. (tt, h))
+    keeps-found (Failed c) n r (Some x) e = (refl, λ h. (refl, (tt, h)))
 
     keeps-ends : (how : State) (n : ℕ) (r : Run P) → Keeps r (ends-so how n r)
     keeps-ends Waiting n r = keeps-same r
     keeps-ends Running n r = keeps-same r
     keeps-ends Good n r = (refl, λ h. (tt, h))
-    keeps-ends (Failed c) n r = (note-plan (is-make (r .build .plan) n) n _ _, λ h. (tt, h))
+    keeps-ends (Failed c) n r = (refl, λ h. (tt, h))
 
     keeps-mark : (how : State) (m n : ℕ) (r : Run P) → Keeps r (mark how m n r)
     keeps-mark Waiting m n r = keeps-same r
@@ -107,11 +82,11 @@ module _ {P : Type 0} where
         let one = put-one store m ended in
         let back = mark how m n one in
         let so-far = keeps-both r one back (keeps-found how n r (goes-back m (ended .build .tokens)) e) (keeps-mark how m n one) in
-        keeps-if r (eqb n 0) (λ _. finish ended) _
-        (keeps-both r ended (finish ended) (keeps-ends how n r) (refl, λ h. (tt, h)))
-        (keeps-if r (is-over (back .build) m) (λ _. end-by store fuel (make-end (at (back .build) m)) m back) (λ _. back)
-        (keeps-both r back (end-by store fuel (make-end (at (back .build) m)) m back) so-far (keeps-end fuel (make-end (at (back .build) m)) m back (make-ended (at (back .build) m))))
-        so-far)
+        if-holds (Keeps r) (eqb n 0) (λ _. finish ended) _
+        (λ _. keeps-both r ended (finish ended) (keeps-ends how n r) (refl, λ h. (tt, h)))
+        (λ _. if-holds (Keeps r) (is-over (back .build) m) (λ _. end-by store fuel (make-end (at (back .build) m)) m back) (λ _. back)
+        (λ _. keeps-both r back (end-by store fuel (make-end (at (back .build) m)) m back) so-far (keeps-end fuel (make-end (at (back .build) m)) m back (make-ended (at (back .build) m))))
+        (λ _. so-far))
 
     keeps-node : (how : State) (n : ℕ) (r : Run P) → is-ended how ≡ true → Keeps r (end-node store how n r)
     keeps-node how n r e = keeps-end (suc n) how n r e
@@ -123,7 +98,7 @@ module _ {P : Type 0} where
         let t = eqb (at (one .build) n .done) (one .build .plan .steps n) in
         let last = if-so t (λ _. end-node store how n one) (λ _. one) in
         keeps-both r last (settle store last)
-        (keeps-both r one last (refl, λ h. (tt, h)) (keeps-if one t (λ _. end-node store how n one) (λ _. one) (keeps-node how n one (last-ended (one .build .plan .kind n))) (keeps-same one)))
+        (keeps-both r one last (refl, λ h. (tt, h)) (if-holds (Keeps one) t (λ _. end-node store how n one) (λ _. one) (λ _. keeps-node how n one (last-ended (one .build .plan .kind n))) (λ _. keeps-same one)))
         (keeps-settle last)
 
     kills : (n : ℕ) (r : Run P) → Keeps r (kill-run store n r)
@@ -151,7 +126,7 @@ module _ {P : Type 0} where
     keeps-rounds zero r = keeps-same r
     keeps-rounds (suc n) r =
         let one = step-each store (running-jobs (r .build)) r in
-        keeps-if r (finished (r .build)) (λ _. r) (λ _. rounds-by store n one) (keeps-same r) (keeps-both r one (rounds-by store n one) (keeps-each (running-jobs (r .build)) r) (keeps-rounds n one))
+        if-holds (Keeps r) (finished (r .build)) (λ _. r) (λ _. rounds-by store n one) (λ _. keeps-same r) (λ _. keeps-both r one (rounds-by store n one) (keeps-each (running-jobs (r .build)) r) (keeps-rounds n one))
 
   pub returned : Returned P
   returned = record {

@@ -49,7 +49,7 @@ left-falls (x ∷ xs) zero y within w begun =
 left-falls (x ∷ xs) (suc n) y within w begun = omega (arith, left-falls xs n y (omega arith) w begun)
 
 -- numbers from k on are below the end
-numbers-below : (k n end : ℕ) → k + n ≤ end → Each (λ x. x < end) (numbers k n)
+pub numbers-below : (k n end : ℕ) → k + n ≤ end → Each (λ x. x < end) (numbers k n)
 numbers-below k zero end h = tt
 numbers-below k (suc n) end h = (omega arith, numbers-below (k + 1) n end (omega arith))
 

@@ -68,6 +68,10 @@ with-node b n x = record { plan = b .plan; keep = b .keep; nodes = set (b .nodes
 abbrev pub with-tokens : Build → List Held → Build
 with-tokens b ts = record { plan = b .plan; keep = b .keep; nodes = b .nodes; tokens = ts; losses = b .losses }
 
+-- these losses are noted
+abbrev pub with-losses : Build → List Loss → Build
+with-losses b ls = record { plan = b .plan; keep = b .keep; nodes = b .nodes; tokens = b .tokens; losses = ls }
+
 -- the same in another state
 abbrev pub with-state : Progress → State → Progress
 with-state x s = record { state = s; done = x .done; stopped = x .stopped; «first_failed» = x .«first_failed» }

@@ -9,7 +9,14 @@ use Rattle.first_line.specs.Head.{Choice, a-pipe, a-semaphore, Head, head}
 use Rattle.first_line.specs.declared.types.Refusal.{Refusal}
 use Rattle.lines.specs.Faults.{Fault}
 use Rattle.rules.specs.Calls.{open-run, step-run, kill-run, halt-run, rounds-run}
+use Rattle.rules.specs.Builds.{Build}
+use Rattle.rules.specs.Faults.{fault}
+use Rattle.rules.specs.Faults.{Fault as FaultOf}
 use Rattle.rules.specs.Plans.{Plan, plan-of}
+use Rattle.rules.specs.Refusing.{open-refusal, call-refusal, job-refusal, answer, steps-taken}
+use Rattle.schedule.specs.Causes.{cause-number}
+use Rattle.std.specs.declared.option.Option.{Option}
+use Rattle.std.specs.declared.option.Option.the-variants.{Some, None}
 use Rattle.rules.specs.Settling.{Store, Run}
 use Rattle.rules.specs.Stores.{Stock, pipe-store, semaphore-store, quota-store, limit-store}
 use Rattle.schedule.specs.Lines.{printed}
@@ -96,6 +103,25 @@ wide-run =
     let t = plan-of (top ∷ replicate 49 (record { kind = Job; make = 0; level = 0; steps = 10; wait = false })) in
     length (rounds-run pipe-store (open-run pipe-store t false 3 (record { held = codes "xyz"; out = 0 })) .records)
 
+-- a refusal's number, or nothing
+abbrev pub number-of : Option ℕ → List ℕ
+number-of None = []
+number-of (Some n) = n ∷ []
+
+-- of every byte so many are out
+abbrev pub all-out : ℕ → ℕ → ℕ
+all-out n k = n
+
+-- the finished build of the worked tree
+abbrev pub finished-z : Build
+finished-z = rounds-run pipe-store opened-z .build
+
+-- a failed node's fault, as numbers: cause, node, level, steps done, and the tokens
+abbrev pub told-fault : Result (Option FaultOf) ℕ → List ℕ
+told-fault (Ok None) = []
+told-fault (Ok (Some f)) = cause-number (f .cause) ∷ f .node ∷ f .level ∷ f .done ∷ f .tokens
+told-fault (Err n) = n ∷ []
+
 -- a run, and what it must come to
 pub record Row : Type 0 where
   pub got : List ℕ
@@ -174,6 +200,60 @@ rows =
     record {
       got = fault-of (read-text (codes "done" ++ 10 ∷ []));
       want = 9 ∷ 1 ∷ 0 ∷ [];
+    }
+    ∷
+    -- open: tokens are out, before the buffer is too short
+    record {
+      got = number-of (open-refusal plan-z 1 0);
+      want = 14 ∷ [];
+    }
+    ∷
+    -- open: the tree of 7 nodes and 7 steps needs 105 bytes
+    record {
+      got = number-of (open-refusal plan-z 0 104) ++ number-of (open-refusal plan-z 0 105);
+      want = 15 ∷ [];
+    }
+    ∷
+    -- a finished build: first the buffer, then that it is finished
+    record {
+      got = number-of (call-refusal finished-z (all-out 0) 104) ++ number-of (call-refusal finished-z (all-out 0) 105);
+      want = 15 ∷ 16 ∷ [];
+    }
+    ∷
+    -- another pool, before a node that is no running job
+    record {
+      got = number-of (job-refusal (opened-z .build) (all-out 0) 105 0);
+      want = 17 ∷ [];
+    }
+    ∷
+    -- a make, a job that has not begun, and a number outside the tree are no running jobs; job 1 is one
+    record {
+      got = number-of (job-refusal (opened-z .build) (all-out 1) 105 0) ++ (number-of (job-refusal (opened-z .build) (all-out 1) 105 6) ++ (number-of (job-refusal (opened-z .build) (all-out 1) 105 7) ++ number-of (job-refusal (opened-z .build) (all-out 1) 105 1)));
+      want = 18 ∷ 18 ∷ 18 ∷ [];
+    }
+    ∷
+    -- rounds take six steps of the worked tree: job 6 never starts
+    record {
+      got = steps-taken (opened-z .build) finished-z ∷ [];
+      want = 6 ∷ [];
+    }
+    ∷
+    -- three jobs run after the open
+    record {
+      got = answer (opened-z .build) ∷ [];
+      want = 3 ∷ [];
+    }
+    ∷
+    -- the fault of job 4: the script, level 1, two steps, and 121 in its make's hand; of the makes 2 and 0 the same
+    record {
+      got = told-fault (fault finished-z 4) ++ (told-fault (fault finished-z 2) ++ told-fault (fault finished-z 0));
+      want = 1 ∷ 4 ∷ 1 ∷ 2 ∷ 121 ∷ 1 ∷ 4 ∷ 1 ∷ 2 ∷ 121 ∷ 1 ∷ 4 ∷ 1 ∷ 2 ∷ 121 ∷ [];
+    }
+    ∷
+    -- a job that ended well has no fault, and a number outside the tree is refused
+    record {
+      got = told-fault (fault finished-z 1) ++ told-fault (fault finished-z 7);
+      want = 21 ∷ [];
     }
     ∷
     -- a larger run: `O` and `D`, an `A` for the first job and a `T` for each of the other 48, an `R` for each `T`,

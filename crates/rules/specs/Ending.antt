@@ -3,7 +3,7 @@ use mathlib.Core.Bool.{Bool, true, false, cond, not, _&&_, _||_}
 use mathlib.Core.List.{List, [], _∷_}
 use Prim.Native.Nat.{ℕ, zero, suc}
 use lib.Dec.{eqb}
-use Rattle.rules.specs.Builds.{Build, Held, Loss, at, running, has-running, has-waiting, with-node, with-tokens, in-state, tokens-of}
+use Rattle.rules.specs.Builds.{Build, Held, Loss, at, running, has-running, has-waiting, with-losses, with-node, with-tokens, in-state, tokens-of}
 use Rattle.rules.specs.Lists.{if-so, is-some, or-else}
 use Rattle.rules.specs.Plans.{is-make}
 use Rattle.rules.specs.Settling.{Store, Run}
@@ -61,10 +61,10 @@ mark (Failed c) m n r = record {
   records = r .records;
 }
 
--- what the tokens of its make were when a job failed
-abbrev pub note-loss : Bool → ℕ → List ℕ → Build → Build
-note-loss true n ts b = b
-note-loss false n ts b = record { plan = b .plan; keep = b .keep; nodes = b .nodes; tokens = b .tokens; losses = record { job = n; tokens = ts } ∷ b .losses }
+-- what the tokens of its make were when a job failed; of a make nothing is noted
+abbrev pub noted-loss : Bool → ℕ → List ℕ → List Loss → List Loss
+noted-loss true n ts ls = ls
+noted-loss false n ts ls = record { job = n; tokens = ts } ∷ ls
 
 -- node n ends in this state, with its record
 abbrev pub ends-so : {P : Type 0} → State → ℕ → Run P → Run P
@@ -72,7 +72,8 @@ ends-so Waiting n r = r
 ends-so Running n r = r
 ends-so Good n r = record { build = in-state (r .build) n Good; pool = r .pool; records = EndedWell n ∷ r .records }
 ends-so (Failed c) n r = record {
-  build = note-loss (is-make (r .build .plan) n) n (tokens-of (r .build) (r .build .plan .make n)) (in-state (r .build) n (Failed c));
+  build = with-losses (in-state (r .build) n (Failed c))
+      (noted-loss (is-make (r .build .plan) n) n (tokens-of (r .build) (r .build .plan .make n)) (r .build .losses));
   pool = r .pool;
   records = EndedFailed n (cause-number c) ∷ r .records;
 }

@@ -5,9 +5,12 @@ pub mod Startable
 pub mod Settling
 pub mod Ending
 pub mod Calls
-pub mod Stores
-pub mod Cases
-pub mod Agreement
+pub mod Refusing
+pub mod Faults
 pub mod Words
 pub mod Settled
 pub mod Returns
+pub mod Causes
+pub mod Stores
+pub mod Agreement
+pub mod Cases

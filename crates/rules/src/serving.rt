@@ -1,5 +1,6 @@
 // Who is served, in the words of the rule.
 ghost use Rattle.rules.specs.Builds.{Build};
+ghost use Rattle.rules.specs.Causes.{First-fault, Tells-all, Trees-ordered};
 ghost use Rattle.rules.specs.Returns.{Returned};
 ghost use Rattle.rules.specs.Settled.{Settling-is-so};
 ghost use Rattle.rules.specs.Words.{Served};
@@ -18,4 +19,13 @@ pub fn settling_is_so<P>()
 // In every call on every pool, a token goes back directly behind the end of a child of its make.
 pub fn tokens_go_back<P>()
     ensures law { λ _. ⌜ Returned P ⌝ }
+{}
+
+// After every call on every pool the records tell the steps that each job has done, which child of each make failed
+// first, and the cause of every failure; so the fault of a failed make is that of the child whose failure came first.
+// What this asks of a tree holds of every tree that can be held.
+pub fn records_tell<P>()
+    ensures law { λ _. ⌜ Tells-all P ⌝ }
+    ensures faults { λ _. ⌜ First-fault P ⌝ }
+    ensures trees { λ _. ⌜ Trees-ordered ⌝ }
 {}
