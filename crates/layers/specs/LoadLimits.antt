@@ -10,7 +10,7 @@ use Rattle.layers.specs.declared.«load_limit».LoadLimit.{LoadLimit}
 abbrev pub limit-ready : {P : Type 0} → Ways P → LoadLimit P → ℕ
 limit-ready w s = cond (leb (s .limit) (s .reading)) 0 (w .means (s .below) .ready)
 
--- A load limit has the in and out of the pool below, lends only while the last reading is under the limit,
+-- A load limit has the tokens of the pool below, lends only while the last reading is under the limit,
 -- passes all else down, keeps the last reading that was heard, and never changes its limit.
 abbrev pub limit-ways : {P : Type 0} → Ways P → Ways (LoadLimit P)
 limit-ways w = record {

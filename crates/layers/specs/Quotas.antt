@@ -9,7 +9,7 @@ use Rattle.layers.specs.declared.quota.Quota.{Quota}
 abbrev pub quota-ready : {P : Type 0} → Ways P → Quota P → ℕ
 quota-ready w s = min (w .means (s .below) .ready) (s .most - total (w .means (s .below) .outs))
 
--- A quota has the in and out of the pool below, lends only while it is not used up, passes all else down, and stays as it is.
+-- A quota has the tokens of the pool below, lends only while it is not used up, passes all else down, and stays as it is.
 abbrev pub quota-ways : {P : Type 0} → Ways P → Ways (Quota P)
 quota-ways w = record {
   means = λ s. record { ins = w .means (s .below) .ins; outs = w .means (s .below) .outs; ready = quota-ready w s };

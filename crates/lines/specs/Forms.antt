@@ -1,4 +1,4 @@
--- The form of a line: its first word and its number of words.
+-- The form of a line: how it begins, and how many words it has.
 use mathlib.Core.Bool.{Bool, true, false, cond, not, _||_}
 use mathlib.Core.List.{List, [], _∷_}
 use Prim.Native.Nat.{ℕ}

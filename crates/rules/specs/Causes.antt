@@ -125,7 +125,7 @@ pub record Tells-all (P : Type 0) : Type 0 where
   pub halts : (store : Store P) (r : Run P) → Ordered (r .build .plan) → Tells r → Tells (halt-run store r)
   pub rounds : (store : Store P) (r : Run P) → Ordered (r .build .plan) → Tells r → Tells (rounds-run store r)
 
--- the fault of a failed make is that of its child that failed first in time, whole
+-- a failed make answers with the whole fault of the child that was first to fail
 abbrev pub First-fault : Type 0 → Type 0
 First-fault P =
     (r : Run P) → Tells r → (m fuel : ℕ) (c : Cause) → is-make (r .build .plan) m ≡ true → at (r .build) m .state ≡ Failed c →

@@ -22,7 +22,7 @@ pub fn tokens_go_back<P>()
 {}
 
 // After every call on every pool the records tell the steps that each job has done, which child of each make failed
-// first, and the cause of every failure; so the fault of a failed make is that of the child whose failure came first.
+// first, and the cause of every failure; so a failed make answers with the fault of the child that was first to fail.
 // What this asks of a tree holds of every tree that can be held.
 pub fn records_tell<P>()
     ensures law { λ _. ⌜ Tells-all P ⌝ }
