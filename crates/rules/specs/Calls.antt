@@ -1,6 +1,6 @@
 -- The calls of a build, once they are accepted.
 use mathlib.Core.Bool.{Bool, true, false, cond, not}
-use mathlib.Core.List.{List, [], _∷_}
+use mathlib.Core.List.{List, [], _∷_, reverse}
 use Prim.Native.Nat.{ℕ, zero, suc, _+_}
 use lib.Dec.{eqb}
 use lib.ListN.{length}
@@ -12,6 +12,7 @@ use Rattle.rules.specs.Settling.{Store, Run, settle}
 use Rattle.rules.specs.declared.progress.Progress.{Progress}
 use Rattle.rules.specs.declared.progress.State.{State}
 use Rattle.rules.specs.declared.progress.State.the-variants.{Running, Good, Failed}
+use Rattle.schedule.specs.Records.{encoded}
 use Rattle.schedule.specs.declared.cause.Cause.the-variants as causes
 use Rattle.schedule.specs.declared.record.Record.{Record}
 use Rattle.schedule.specs.declared.record.Record.the-variants.{Open, Step, Kill, Halt}
@@ -101,3 +102,7 @@ rounds-by store (suc n) r =
 -- until the finish: each round takes at least one step
 abbrev pub rounds-run : {P : Type 0} → Store P → Run P → Run P
 rounds-run store r = rounds-by store (r .build .plan .all-steps) r
+
+-- how many bytes of the schedule are written
+abbrev pub written : {P : Type 0} → Run P → ℕ
+written r = length (encoded (reverse (r .records)))

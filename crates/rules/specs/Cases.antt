@@ -8,7 +8,7 @@ use lib.ListN.{length, replicate}
 use Rattle.first_line.specs.Head.{Choice, a-pipe, a-semaphore, Head, head}
 use Rattle.first_line.specs.declared.types.Refusal.{Refusal}
 use Rattle.lines.specs.Faults.{Fault}
-use Rattle.rules.specs.Calls.{open-run, step-run, kill-run, halt-run, rounds-run}
+use Rattle.rules.specs.Calls.{open-run, step-run, kill-run, halt-run, rounds-run, written}
 use Rattle.rules.specs.Builds.{Build}
 use Rattle.rules.specs.Faults.{fault}
 use Rattle.rules.specs.Faults.{Fault as FaultOf}
@@ -236,6 +236,12 @@ rows =
     record {
       got = steps-taken (opened-z .build) finished-z ∷ [];
       want = 6 ∷ [];
+    }
+    ∷
+    -- the open of the worked tree writes records of 4, 3, 4, 3 and 4 bytes
+    record {
+      got = written opened-z ∷ [];
+      want = 18 ∷ [];
     }
     ∷
     -- three jobs run after the open
