@@ -2,7 +2,7 @@
 use mathlib.Core.Path.{_≡_}
 use mathlib.Core.List.{List, [], _∷_, _++_, map, reverse}
 use Prim.Native.Nat.{ℕ, _+_, _≤_}
-use Rattle.pool.specs.Chain.{Chain}
+use Rattle.pool.specs.Chain.{Op, took-none, took, put-back, Did, Chain}
 use Rattle.pool.specs.Meaning.{count}
 use Rattle.pool.specs.Ways.{Ways}
 use Rattle.drain.specs.declared.events.Event.{Event}
@@ -16,22 +16,21 @@ pub record Stands {P : Type 0} (w : Ways P) (s : Standing) (q : P) : Type 0 wher
   pub out-of-byte : s .«tokens_out» ≡ w .means q .outs (s .byte)
   pub ready : s .ready ≡ w .means q .ready
 
+-- Which operation of the pool the event was.
+abbrev pub op : Event → Op
+op (Obtained s) = took (s .byte)
+op Nothing = took-none
+op (Released s) = put-back (s .byte)
+
+-- The event tells how the pool q stands.
+abbrev pub Shows : {P : Type 0} → Ways P → Event → P → Type 0
+Shows w (Obtained s) q = Stands w s q
+Shows w Nothing q = Unit {0}
+Shows w (Released s) q = Stands w s q
+
 -- The event led from p to q, and tells how the pool then stands.
 abbrev pub Happened : {P : Type 0} → Ways P → Event → P → P → Type 0
-Happened w (Obtained s) p q = w .gave p (s .byte) q × Stands w s q
-Happened w Nothing p q = (w .means p .ready ≡ 0) × (q ≡ p)
-Happened w (Released s) p q = w .back p (s .byte) q × Stands w s q
-
--- What kind of event it was, and of which byte.
-pub data Kind : Type 0 where
-  obtain : ℕ → Kind
-  none : Kind
-  release : ℕ → Kind
-
-abbrev pub kind : Event → Kind
-kind (Obtained s) = obtain (s .byte)
-kind Nothing = none
-kind (Released s) = release (s .byte)
+Happened w e p q = Did w (op e) p q × Shows w e q
 
 -- The bytes of some grants, in their order.
 abbrev pub bytes-of : List Grant → List ℕ
@@ -40,7 +39,7 @@ bytes-of gs = map (λ g. g .byte) gs
 -- The first half of a round led from p to q: the grants gs were obtained, and then none came.
 pub record Obtained-all {P : Type 0} (w : Ways P) (p : P) (gs : List Grant) (es : List Event) (q : P) : Type 0 where
   pub chain : Chain (Happened w) es p q
-  pub kinds : map kind es ≡ map obtain (bytes-of gs) ++ none ∷ []
+  pub ops : map op es ≡ map took (bytes-of gs) ++ took-none ∷ []
   pub out : (k : ℕ) → w .means q .outs k ≡ w .means p .outs k + count k (bytes-of gs)
 
 -- The tokens of the grants gs are among those that are out of p.
@@ -52,14 +51,14 @@ pub record Released-all {P : Type 0} (w : Ways P) (p : P) (gs : List Grant) (es 
   pub new : List Event
   pub behind : fs ≡ es ++ new
   pub chain : Chain (Happened w) new p q
-  pub kinds : map kind new ≡ map release (reverse (bytes-of gs))
+  pub ops : map op new ≡ map put-back (reverse (bytes-of gs))
 
 -- Some bytes are obtained, then none comes, then the same are released, the last one first.
-abbrev pub all-and-back : List ℕ → List Kind
-all-and-back bs = map obtain bs ++ none ∷ map release (reverse bs)
+abbrev pub all-and-back : List ℕ → List Op
+all-and-back bs = map took bs ++ took-none ∷ map put-back (reverse bs)
 
 -- The events led from p to q, and are such a round.
 pub record Drained {P : Type 0} (w : Ways P) (p : P) (es : List Event) (q : P) : Type 0 where
   pub chain : Chain (Happened w) es p q
   pub bytes : List ℕ
-  pub round : map kind es ≡ all-and-back bytes
+  pub round : map op es ≡ all-and-back bytes
