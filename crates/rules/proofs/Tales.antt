@@ -2,16 +2,17 @@
 use mathlib.Core.Path.{_≡_, refl, sym, ap, subst, _∙_}
 use mathlib.Core.Bool.{Bool, true, false, cond, not, _&&_}
 use mathlib.Core.List.{List, [], _∷_}
-use Prim.Native.Nat.{ℕ, zero, suc, _<_}
+use mathlib.Core.Logic.{⊎-elim}
+use Prim.Native.Nat.{ℕ, zero, suc, _+_, _≤_, _<_}
 use native.Mathlib.Omega.{arith}
-use lib.Dec.{eqb}
+use lib.Dec.{eqb, ltb}
 use lib.ListN.{length, getD, set, replicate, length-set, length-replicate}
 use Rattle.rules.specs.Builds.{Build, Held, unbegun, at, with-node, with-state, running, running-jobs, finished, begun-on}
 use Rattle.rules.specs.Calls.{noted, on-build, opening, open-run, step-run, kill-run, poll-run, halt-run, rounds-run, rounds-by, step-each, end-all, last-step, stop-all, stop, stepped}
-use Rattle.rules.specs.Causes.{Has-halt, Cause-of, Told, Tells, Tells-all, First-fault, Ordered, Trees-ordered, Job, here, before, by-script, by-kill, by-child, by-halt, steps-in}
+use Rattle.rules.specs.Causes.{All-caused, Caused, failed-child, first-failed, Has-halt, Cause-of, Told, Tells, Tells-all, First-fault, Ordered, Trees-ordered, Job, here, before, by-script, by-kill, by-child, by-halt, steps-in}
 use Rattle.rules.specs.Ending.{put-found, put-one, goes-back, mark, marked, ends-so, finish, end-by, end-node, make-end, is-over}
-use Rattle.rules.specs.Faults.{of-child, fault-in, fault-by}
-use Rattle.rules.specs.Lists.{if-so, is-some, numbers, those, put-if}
+use Rattle.rules.specs.Faults.{Fault, of-child, fault, fault-in, fault-by}
+use Rattle.rules.specs.Lists.{if-so, is-some, or-else, when, numbers, those, put-if}
 use Rattle.rules.specs.Plans.{Plan, is-make, all-makes}
 use Rattle.rules.specs.Returns.{Keeps}
 use Rattle.rules.specs.Settling.{Store, Run, Start, start-in-slot, start-with-token, settle}
@@ -28,9 +29,10 @@ use Rattle.schedule.specs.Causes.{cause-number}
 use Rattle.schedule.specs.declared.cause.Cause.the-variants as causes
 use Rattle.schedule.specs.declared.record.Record.{Record}
 use Rattle.schedule.specs.declared.record.Record.the-variants.{Open, StartInSlot, StartWithToken, Step, Kill, Halt, EndedWell, EndedFailed, PutBack, Finished}
-use Rattle.std.proofs.shelf.Tests.{eqb-true, eqb-false}
+use Rattle.std.proofs.shelf.Tests.{and-parts, cases-bool, eqb-true, eqb-false, lt-ltb, not-true}
 use Rattle.std.specs.declared.option.Option.{Option}
 use Rattle.std.specs.declared.option.Option.the-variants.{Some, None}
+use Rattle.std.specs.declared.result.Result.the-variants.{Ok}
 use Rattle.tree.specs.declared.node.Kind.{Kind}
 use Rattle.tree.specs.declared.node.Kind.the-variants as kinds
 
@@ -132,7 +134,7 @@ module _ {P : Type 0} where
           tells = told-quiet (ended-told n Good r k) (EndedWell n) (record { no-step = λ i. refl; no-failure = λ _ j. refl; no-cause = λ _ rs. tt });
         })
     after-child store (Failed c) n o r ord pos inside why k =
-        let failed : Owed n (cause-number c) (ends-so (Failed c) n r) = record { plan = k .plan; owes = owing n (cause-number c) (ended-told n (Failed c) r k) why } in
+        let failed : Owed n (cause-number c) (ends-so (Failed c) n r) = record { plan = k .plan; owes = owing n (cause-number c) (ended-told n (Failed c) r k) inside why } in
         let back = put-found store (t .make n) o (ends-so (Failed c) n r) in
         let owed = put-owed store n (cause-number c) (t .make n) o (ends-so (Failed c) n r) failed in
         record {
@@ -141,16 +143,16 @@ module _ {P : Type 0} where
         }
 
     -- the top make ends
-    after-top : (how : State) (n : ℕ) (r : Run P) → n ≡ 0 → Why t how n (r .records) → Kept t r → Kept t (ends-so how n r)
-    after-top Waiting n r top why k = k
-    after-top Running n r top why k = k
-    after-top Good n r top why k = record {
+    after-top : (how : State) (n : ℕ) (r : Run P) → n < t .nodes → n ≡ 0 → Why t how n (r .records) → Kept t r → Kept t (ends-so how n r)
+    after-top Waiting n r inside top why k = k
+    after-top Running n r inside top why k = k
+    after-top Good n r inside top why k = record {
       plan = k .plan;
       tells = told-quiet (ended-told n Good r k) (EndedWell n) (record { no-step = λ i. refl; no-failure = λ _ j. refl; no-cause = λ _ rs. tt });
     }
-    after-top (Failed c) n r top why k = record {
+    after-top (Failed c) n r inside top why k = record {
       plan = k .plan;
-      tells = owing-top (owing n (cause-number c) (ended-told n (Failed c) r k) why) top;
+      tells = owing-top (owing n (cause-number c) (ended-told n (Failed c) r k) inside why) top;
     }
 
     kept-end : (store : Store P) (fuel : ℕ) (how : State) (n : ℕ) (r : Run P) → Ordered t → n < t .nodes → Why t how n (r .records) → Kept t r → Kept t (end-by store fuel how n r)
@@ -158,7 +160,7 @@ module _ {P : Type 0} where
     kept-end store (suc fuel) how n r ord inside why k =
         if-holds (Kept t) (eqb n 0) _ _
         (λ top.
-        let ended = after-top how n r (eqb-true n 0 top) why k in
+        let ended = after-top how n r inside (eqb-true n 0 top) why k in
         record {
           plan = ended .plan;
           tells = told-quiet (ended .tells) (Finished _) (record { no-step = λ i. refl; no-failure = λ _ j. refl; no-cause = λ _ rs. tt });
@@ -278,11 +280,80 @@ module _ {P : Type 0} where
     rounds = λ store r ord h. told-of (r .build .plan) _ (kept-rounds (r .build .plan) store (r .build .plan .all-steps) r ord (kept-of r h));
   }
 
-  pub first-fault : First-fault P
-  first-fault r told m fuel c make failed =
-      ap (λ s. fault-in s (r .build) m (fault-by (r .build) fuel)) failed
-      ∙ taken-so (is-make (r .build .plan) m) _ _ make
-      ∙ ap (λ o. of-child o (fault-by (r .build) fuel)) (told .first m)
+-- a child that failed first is a node of the tree, and belongs to the make
+abbrev Child : Plan → ℕ → ℕ → Type 0
+Child t m k = (k < t .nodes) × (t .make k ≡ m) × (0 < k)
+
+told-child : (t : Plan) (m k : ℕ) (x : Record) (rs : List Record) → Caused t x rs → failed-child t m x ≡ Some k → Child t m k
+told-child t m k (Open a b c) rs all e = let z : _≡_ {A = ℕ} 0 1 = cc in absurd (omega arith)
+told-child t m k (StartInSlot a b) rs all e = let z : _≡_ {A = ℕ} 0 1 = cc in absurd (omega arith)
+told-child t m k (StartWithToken a b c) rs all e = let z : _≡_ {A = ℕ} 0 1 = cc in absurd (omega arith)
+told-child t m k (Step a) rs all e = let z : _≡_ {A = ℕ} 0 1 = cc in absurd (omega arith)
+told-child t m k (Kill a) rs all e = let z : _≡_ {A = ℕ} 0 1 = cc in absurd (omega arith)
+told-child t m k Halt rs all e = let z : _≡_ {A = ℕ} 0 1 = cc in absurd (omega arith)
+told-child t m k (EndedWell a) rs all e = let z : _≡_ {A = ℕ} 0 1 = cc in absurd (omega arith)
+told-child t m k (PutBack a b) rs all e = let z : _≡_ {A = ℕ} 0 1 = cc in absurd (omega arith)
+told-child t m k (Finished a) rs all e = let z : _≡_ {A = ℕ} 0 1 = cc in absurd (omega arith)
+told-child t m k (EndedFailed n c) rs all e =
+    ⊎-elim
+    (λ so.
+    let got : _≡_ {A = Option ℕ} (Some n) (Some k) = sym (ap (λ b. when b (λ _. Some n)) so) ∙ e in
+    let same : n ≡ k = cc in
+    let parts = and-parts (not (eqb n 0)) (eqb (t .make n) m) so in
+    let apart = eqb-false n 0 (not-true (eqb n 0) (parts .0)) in
+    subst (Child t m) same (all .0, eqb-true (t .make n) m (parts .1), omega (arith, apart)))
+    (λ not. let got : _≡_ {A = Option ℕ} None (Some k) = sym (ap (λ b. when b (λ _. Some n)) not) ∙ e in let z : _≡_ {A = ℕ} 0 1 = cc in absurd (omega arith))
+    (cases-bool (not (eqb n 0) && eqb (t .make n) m))
+
+or-child : (t : Plan) (m k : ℕ) (x : Record) (rs : List Record) (o : Option ℕ) → first-failed t m rs ≡ o → Caused t x rs → (first-failed t m rs ≡ Some k → Child t m k) → or-else o (λ _. failed-child t m x) ≡ Some k → Child t m k
+or-child t m k x rs None is all onward e = told-child t m k x rs all e
+or-child t m k x rs (Some y) is all onward e = onward (is ∙ e)
+
+first-inside : (t : Plan) (m k : ℕ) (rs : List Record) → All-caused t rs → first-failed t m rs ≡ Some k → Child t m k
+first-inside t m k [] all e = let z : _≡_ {A = ℕ} 0 1 = cc in absurd (omega arith)
+first-inside t m k (x ∷ rs) all e = or-child t m k x rs (first-failed t m rs) refl (all .0) (first-inside t m k rs (all .1)) e
+
+module _ {P : Type 0} (r : Run P) (ord : Ordered (r .build .plan)) (told : Tells r) where
+  child-of : (m k : ℕ) → at (r .build) m .«first_failed» ≡ Some k → Child (r .build .plan) m k
+  child-of m k e = first-inside (r .build .plan) m k (r .records) (told .causes) (sym (told .first m) ∙ e)
+
+  -- one turn more changes nothing, once there are enough
+  by-first : (fuel m : ℕ) (o : Option ℕ) → at (r .build) m .«first_failed» ≡ o → ((k : ℕ) → Child (r .build .plan) m k → fault-by (r .build) fuel k ≡ fault-by (r .build) (suc fuel) k) → of-child o (fault-by (r .build) fuel) ≡ of-child o (fault-by (r .build) (suc fuel))
+  by-first fuel m None is onward = refl
+  by-first fuel m (Some k) is onward = onward k (child-of m k is)
+
+  by-kind : (fuel m : ℕ) (t : Bool) (f : Fault) → ((k : ℕ) → Child (r .build .plan) m k → fault-by (r .build) fuel k ≡ fault-by (r .build) (suc fuel) k) → if-so t (λ _. of-child (at (r .build) m .«first_failed») (fault-by (r .build) fuel)) (λ _. Some f) ≡ if-so t (λ _. of-child (at (r .build) m .«first_failed») (fault-by (r .build) (suc fuel))) (λ _. Some f)
+  by-kind fuel m true f onward = by-first fuel m (at (r .build) m .«first_failed») refl onward
+  by-kind fuel m false f onward = refl
+
+  by-state : (fuel m : ℕ) (s : State) → ((k : ℕ) → Child (r .build .plan) m k → fault-by (r .build) fuel k ≡ fault-by (r .build) (suc fuel) k) → fault-in s (r .build) m (fault-by (r .build) fuel) ≡ fault-in s (r .build) m (fault-by (r .build) (suc fuel))
+  by-state fuel m Waiting onward = refl
+  by-state fuel m Running onward = refl
+  by-state fuel m Good onward = refl
+  by-state fuel m (Failed c) onward = by-kind fuel m (is-make (r .build .plan) m) _ onward
+
+  enough : (fuel m : ℕ) → m < r .build .plan .nodes → r .build .plan .nodes ≤ m + fuel → fault-by (r .build) fuel m ≡ fault-by (r .build) (suc fuel) m
+  enough zero m inside few = absurd (omega arith)
+  enough (suc fuel) m inside few =
+      by-state fuel m (at (r .build) m .state)
+      (λ k child. enough fuel k (child .0) (let below = ord .placed k (child .2) (child .0) .0 in let same = child .1 in omega arith))
+
+-- the fault of a node of the tree
+asked-fault : (b : Build) (n : ℕ) → n < b .plan .nodes → fault b n ≡ Ok (fault-by b (b .plan .nodes) n)
+asked-fault b n inside = taken-so (ltb n (b .plan .nodes)) _ _ (lt-ltb n (b .plan .nodes) inside)
+
+pub first-fault : (P : Type 0) → First-fault P
+first-fault P r ord told m k c inside make failed first =
+    let b = r .build in
+    let turns = b .plan .nodes in
+    let child = first-inside (b .plan) m k (r .records) (told .causes) first in
+    asked-fault b m inside
+    ∙ ap Ok
+    (enough r ord told turns m inside (omega arith)
+    ∙ ap (λ s. fault-in s b m (fault-by b turns)) failed
+    ∙ taken-so (is-make (b .plan) m) _ _ make
+    ∙ ap (λ o. of-child o (fault-by b turns)) (told .first m ∙ first))
+    ∙ sym (asked-fault b k (child .0))
 
 pub trees-ordered : Trees-ordered
 trees-ordered t = record { some = t .counted .0; top = t .topped .0; placed = λ n pos inside. t .placed n (pos, inside) }

@@ -95,12 +95,12 @@ pub record Owing (t : Plan) (n c : ℕ) (ns : List Progress) (rs : List Record) 
   pub first : (m : ℕ) → or-else (getD ns m unbegun .«first_failed») (λ _. failed-child t m (EndedFailed n c)) ≡ first-failed t m rs
   pub causes : All-caused t rs
 
-pub owing : {t : Plan} {ns : List Progress} {rs : List Record} (n c : ℕ) → Told t ns rs → Cause-of t n c rs → Owing t n c ns (EndedFailed n c ∷ rs)
-owing {t} {ns} {rs} n c told cause = record {
+pub owing : {t : Plan} {ns : List Progress} {rs : List Record} (n c : ℕ) → Told t ns rs → n < t .nodes → Cause-of t n c rs → Owing t n c ns (EndedFailed n c ∷ rs)
+owing {t} {ns} {rs} n c told inside cause = record {
   whole = told .whole;
   done = λ k. told .done k ∙ omega arith;
   first = λ m. ap (λ o. or-else o (λ _. failed-child t m (EndedFailed n c))) (told .first m);
-  causes = (cause, told .causes);
+  causes = ((inside, cause), told .causes);
 }
 
 module _ {t : Plan} {n c : ℕ} {ns : List Progress} {rs : List Record} (owed : Owing t n c ns rs) where

@@ -2,12 +2,12 @@
 use mathlib.Core.Path.{_≡_}
 use mathlib.Core.Bool.{Bool, true, false, cond, not, _&&_}
 use mathlib.Core.List.{List, [], _∷_}
-use Prim.Native.Nat.{ℕ, suc, _+_, _<_}
+use Prim.Native.Nat.{ℕ, _+_, _<_}
 use lib.Dec.{eqb}
 use lib.ListN.{length, getD}
 use Rattle.rules.specs.Builds.{at, unbegun}
 use Rattle.rules.specs.Calls.{open-run, step-run, kill-run, poll-run, halt-run, rounds-run}
-use Rattle.rules.specs.Faults.{of-child, fault-by}
+use Rattle.rules.specs.Faults.{fault}
 use Rattle.rules.specs.Lists.{or-else, when}
 use Rattle.rules.specs.Plans.{Plan, is-make, plan-of}
 use Rattle.rules.specs.Settling.{Store, Run}
@@ -83,7 +83,7 @@ Caused t (Step job) rs = Unit {0}
 Caused t (Kill job) rs = Unit {0}
 Caused t Halt rs = Unit {0}
 Caused t (EndedWell node) rs = Unit {0}
-Caused t (EndedFailed node cause) rs = Cause-of t node cause rs
+Caused t (EndedFailed node cause) rs = (node < t .nodes) × Cause-of t node cause rs
 Caused t (PutBack make token) rs = Unit {0}
 Caused t (Finished failed) rs = Unit {0}
 
@@ -128,5 +128,6 @@ pub record Tells-all (P : Type 0) : Type 0 where
 -- a failed make answers with the whole fault of the child that was first to fail
 abbrev pub First-fault : Type 0 → Type 0
 First-fault P =
-    (r : Run P) → Tells r → (m fuel : ℕ) (c : Cause) → is-make (r .build .plan) m ≡ true → at (r .build) m .state ≡ Failed c →
-    fault-by (r .build) (suc fuel) m ≡ of-child (first-failed (r .build .plan) m (r .records)) (fault-by (r .build) fuel)
+    (r : Run P) → Ordered (r .build .plan) → Tells r → (m k : ℕ) (c : Cause) → m < r .build .plan .nodes →
+    is-make (r .build .plan) m ≡ true → at (r .build) m .state ≡ Failed c →
+    first-failed (r .build .plan) m (r .records) ≡ Some k → fault (r .build) m ≡ fault (r .build) k
