@@ -1,4 +1,6 @@
 // A build: its tree is carried out as the rules say, on any pool, with its records in a buffer.
+#![tactic(auto)]
+
 mod asking;
 mod builds;
 mod calls;

@@ -1,4 +1,6 @@
 // What a caller of a build can conclude from the contracts of its calls alone.
+#![tactic(auto)]
+
 mod conserving;
 mod working;
 

@@ -1,4 +1,6 @@
 // Counts as users write them.
+#![tactic(auto)]
+
 ghost use Rattle.std.specs.Prelude.{◌≡◌, ◌-◌, ◌≤◌};
 ghost use Rattle.decimal.specs.Counts.{count};
 

@@ -1,4 +1,6 @@
 // A tool that obtains every token of a pool, until none comes, and then releases them all.
+#![tactic(auto)]
+
 mod draining;
 mod events;
 mod pipes;

@@ -1,4 +1,6 @@
 // Reads a first line and prints what a tool sees that obtains and releases every token of that pool.
+#![tactic(auto)]
+
 use report::report;
 use std::io;
 use std::io::Read;

@@ -1,4 +1,6 @@
 // Layers over any pool: they have its tokens, and narrow what is ready.
+#![tactic(auto)]
+
 mod load_limit;
 mod quota;
 

@@ -1,4 +1,6 @@
 // One line of a script: its words and its form, or the fault of its word or line layer.
+#![tactic(auto)]
+
 mod faults;
 mod forms;
 mod place;

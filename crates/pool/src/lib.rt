@@ -1,4 +1,6 @@
 // The trait of all pools of job tokens: what take, put and load mean, and the laws that every pool owes.
+#![tactic(auto)]
+
 mod limits;
 mod refusals;
 mod traits;

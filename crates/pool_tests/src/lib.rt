@@ -1,4 +1,6 @@
 // Tables of calls on pools, layers and tools, and of first lines. What is expected is worked out from the rules by hand.
+#![tactic(auto)]
+
 #[cfg(test)]
 mod first_lines;
 #[cfg(test)]

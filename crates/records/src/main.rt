@@ -1,4 +1,6 @@
 // Lists the records of a raw schedule from standard input: for each its place and its line, or the refusal that ends it.
+#![tactic(auto)]
+
 ghost use Rattle.std.specs.Prelude.{◌≡◌, ◌++◌, IfOk, OnOk};
 ghost use Rattle.records.specs.Listing.{entry_line, refusal_line, listed};
 ghost use Rattle.schedule.specs.Reading.{division};

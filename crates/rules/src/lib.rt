@@ -1,4 +1,6 @@
 // The rules of a build: what a node may do, and what each call of a build does.
+#![tactic(auto)]
+
 mod cases;
 mod progress;
 mod refusal;

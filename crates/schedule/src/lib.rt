@@ -1,4 +1,6 @@
 // A schedule: the records of a build, one behind the other, as bytes and as lines.
+#![tactic(auto)]
+
 pub mod cause;
 pub mod length;
 pub mod line;

@@ -1,4 +1,6 @@
 // Scripts, and the reader that turns a text into a tree or names its fault.
+#![tactic(auto)]
+
 mod faults;
 mod look;
 mod reader;

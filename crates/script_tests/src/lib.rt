@@ -1,4 +1,6 @@
 // Scripts with the trees or the faults that the rules give them.
+#![tactic(auto)]
+
 #[cfg(test)]
 mod faults;
 #[cfg(test)]

@@ -1,4 +1,6 @@
 // Trees of makes and jobs, the questions that a tree answers, and a tree that grows in script order.
+#![tactic(auto)]
+
 mod copying;
 mod growing;
 mod growth;
