@@ -1,8 +1,8 @@
 // What the program prints for an input: a round of obtaining and releasing all tokens of the pool that it asks for.
 #![tactic(auto)]
 
-mod lines;
 mod nodes;
+mod printed;
 mod reports;
 
 pub use reports::report;

@@ -8,7 +8,7 @@ ghost use Rattle.script.specs.Reading.{read_text};
 ghost use Rattle.semaphore.specs.Semaphores.{semaphore_ways};
 ghost use Rattle.semaphore.specs.Semaphores as semaphores;
 
-use crate::lines::{event_lines, refusal_line};
+use crate::printed::{event_lines, refusal_line};
 use crate::nodes::push_tree;
 use drain::drain;
 use first_line::{PoolChoice, read_first_line};

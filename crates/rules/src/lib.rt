@@ -5,12 +5,8 @@ mod cases;
 mod progress;
 mod refusal;
 mod serving;
-mod start;
-mod tokens;
 
 pub use cases::{worked_cases, worked_layers};
 pub use progress::{End, Event, Progress, State};
 pub use refusal::Refusal;
 pub use serving::{makes_are_served, records_tell, settling_is_so, tokens_go_back};
-pub use start::Start;
-pub use tokens::{Held, Lost};

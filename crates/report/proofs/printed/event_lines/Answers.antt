@@ -1,7 +1,7 @@
 use Rattle.std.proofs.Common.{◌+◌, ◌++◌, drop, vec_items, sym, ap, ◌∙◌, append_assoc, append-nil}
 use Rattle.report.specs.Lines.{event_lines}
 use Rattle.std.proofs.lemmas.List.{at_drop_more, at_drop_all}
-use Rattle.report.proofs.lines.event_lines.Goals as goal
+use Rattle.report.proofs.printed.event_lines.Goals as goal
 
 pub loop-event-preserved : goal.loop-event-preserved
 loop-event-preserved c =
