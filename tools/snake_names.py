@@ -69,8 +69,8 @@ def foreign(text):
         path, items, alias = m.groups()
         own = any(path.startswith(f"Rattle.{c}.") for c in CRATES)
         made = re.search(r"\.(Goals|Needs|Given|Choices|TheVariants)$", path)
-        if alias and own and not made:
-            aliases.add(alias)
+        if own and not made and not items:
+            aliases.add(alias or path.split(".")[-1])
         if items and (not own or made):
             names |= {w.split(" as ")[0].strip() for w in items.split(",")}
     return names, aliases
