@@ -27,7 +27,7 @@ reverse_push xs x = reverse-append xs (x ∷ [])
 module _ (ns : List Node) (outer : List ℕ) (m : ℕ) (facts : Facts ns outer m) where
   -- the innermost open make
   pub innermost : MakeOn ns m (length outer)
-  innermost = Push.last-make ns outer m facts.8
+  innermost = Push.last_make ns outer m facts.8
 
   -- all nodes behind it are of it
   behind : (k : ℕ) → (m < k) × (k < length ns) → m ≤ (at ns k).make
@@ -49,20 +49,20 @@ module _ (ns : List Node) (outer : List ℕ) (m : ℕ) (facts : Facts ns outer m
     pushed =
         let on = innermost in
         let lt : x.make < length ns = omega arith in (
-          (omega (arith, length_push ns x), omega (arith, length_push ns x), omega (arith, Push.total-push ns x)),
-          Push.push-topped ns x facts.0.0 facts.1,
-          Push.push-placed ns x facts.2 lt (ap (is_make ns) of ∙ on.1),
-          Push.push-together ns x facts.2 facts.3 (subst (λ j. (k : ℕ) → (j < k) × (k < length ns) → j ≤ (at ns k).make) (sym of) behind),
-          Push.push-levelled ns x facts.2 facts.4 lt (level ∙ ap (λ l. l + cond (makes x.kind) 1 0) (sym (ap (λ k. (at ns k).level) of ∙ on.2))) flat,
-          Push.push-sized ns x facts.5 fit,
-          Push.push-parted ns x facts.6 (λ w. subst (λ j. j + 1 < length ns) (sym of) (late w)),
-          Push.push-fed ns x facts.7 (λ k e mk. of ∙ facts.11 k (e, mk)),
+          (omega (arith, length_push ns x), omega (arith, length_push ns x), omega (arith, Push.total_push ns x)),
+          Push.push_topped ns x facts.0.0 facts.1,
+          Push.push_placed ns x facts.2 lt (ap (is_make ns) of ∙ on.1),
+          Push.push_together ns x facts.2 facts.3 (subst (λ j. (k : ℕ) → (j < k) × (k < length ns) → j ≤ (at ns k).make) (sym of) behind),
+          Push.push_levelled ns x facts.2 facts.4 lt (level ∙ ap (λ l. l + cond (makes x.kind) 1 0) (sym (ap (λ k. (at ns k).level) of ∙ on.2))) flat,
+          Push.push_sized ns x facts.5 fit,
+          Push.push_parted ns x facts.6 (λ w. subst (λ j. j + 1 < length ns) (sym of) (late w)),
+          Push.push_fed ns x facts.7 (λ k e mk. of ∙ facts.11 k (e, mk)),
         )
 
     stays : Stacked (ns ++ x ∷ []) (opens outer m) × Open (ns ++ x ∷ []) (opens outer m)
     stays = (
-      Push.push-stacked ns x (opens outer m) facts.8,
-      Push.push-opened ns x (opens outer m) facts.10 (λ i h. subst (λ j. get_or (opens outer m) i 0 ≤ j) (sym of) (Push.up-to-last outer m facts.9 i h)),
+      Push.push_stacked ns x (opens outer m) facts.8,
+      Push.push_opened ns x (opens outer m) facts.10 (λ i h. subst (λ j. get_or (opens outer m) i 0 ≤ j) (sym of) (Push.up_to_last outer m facts.9 i h)),
     )
 
     -- a job as the next node
@@ -105,7 +105,7 @@ module _ (ns : List Node) (outer : List ℕ) (m : ℕ) (facts : Facts ns outer m
           p.6,
           p.7,
           Push.each os n 0 (λ i k. MakeOn (ns ++ x ∷ []) k i) s.0 on,
-          Push.rising-push os n facts.9 (λ i h. (facts.8 i h).0),
+          Push.rising_push os n facts.9 (λ i h. (facts.8 i h).0),
           λ i k h. Push.each os n 0 (λ i j. j < k → j ≤ (at (ns ++ x ∷ []) k).make) (λ i l a. s.1 i k (l, a, h.2)) (λ a. absurd (omega (arith, length_push ns x, h.2))) i h.0 h.1,
           λ k h. omega (arith, length_push ns x),
         )
@@ -121,9 +121,9 @@ done_facts ns outer p m facts child = (
   facts.5,
   facts.6,
   facts.7,
-  Push.stacked-pop ns (outer ++ p ∷ []) m facts.8,
-  Push.rising-pop (outer ++ p ∷ []) m facts.9,
-  Push.opened-pop ns (outer ++ p ∷ []) m facts.10,
+  Push.stacked_pop ns (outer ++ p ∷ []) m facts.8,
+  Push.rising_pop (outer ++ p ∷ []) m facts.9,
+  Push.opened_pop ns (outer ++ p ∷ []) m facts.10,
   λ k h. absurd (child (ap (λ n. n + 1) (facts.11 k h) ∙ h.0)),
 )
 
