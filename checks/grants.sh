@@ -9,11 +9,11 @@ trap 'rm -rf "$trial"' EXIT
 mkdir -p "$trial/crates/trial/src"
 cp -r crates/pool crates/tool "$trial/crates/"
 printf 'pool:\ntool: pool\ntrial: pool tool\n' > "$trial/crates.txt"
-cd "$trial"
+cd "$trial/crates/trial"
 
 try() {
-  cp "$programs/$1.txt" crates/trial/src/lib.rt
-  rt check trial > log 2>&1
+  cp "$programs/$1.txt" src/lib.rt
+  rt check > log 2>&1
 }
 
 refused() {
