@@ -135,7 +135,7 @@ module _ {P : Type 0} (w : Ways P) (lends : Lends w) (t : Plan) (start : ℕ →
         let j = (job_accepts b books.shape outs buffer n free).1 in
         together (kill n) (kill_outcome answering t written n r ready j) refl (λ k. refl) (kill_kept answering old r books.shape kept n j)
         (conserving (kill_carried answering n r books.shape j).moves
-        ((keeping_conserved w lends p b.tokens).on-child (Failed causes.Kill) n (noted (Kill n) r) (kill_nested answering n r books.shape j) refl (kill_due answering n r books.shape j) (λ q. unmoved b.tokens refl q)))
+        ((keeping_conserved w lends p b.tokens).on_child (Failed causes.Kill) n (noted (Kill n) r) (kill_nested answering n r books.shape j) refl (kill_due answering n r books.shape j) (λ q. unmoved b.tokens refl q)))
     came poll outs buffer free =
         let r = from_build b bytes in
         together poll (poll_outcome answering t written r ready (accepts b outs buffer free).live) refl (λ k. refl) (poll_kept answering old r books.shape kept)

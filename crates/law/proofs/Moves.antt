@@ -51,8 +51,8 @@ module _ {P : Type 0} (store : Store P) where
 
   pub moves_keep : (Q : Run P → Type 0) → Keeping Q → {r r' : Run P} → Moves store r r' → Q r → Q r'
   moves_keep Q k still h = h
-  moves_keep Q k {r} (in_slot s i m) h = moves_keep Q k m (k.on-slot s r i h)
-  moves_keep Q k {r} (with_token s byte p w e m) h = moves_keep Q k m (k.on-token s byte p r w e h)
+  moves_keep Q k {r} (in_slot s i m) h = moves_keep Q k m (k.on_slot s r i h)
+  moves_keep Q k {r} (with_token s byte p w e m) h = moves_keep Q k m (k.on_token s byte p r w e h)
   moves_keep Q k {r} (no_more p e m) h = moves_keep Q k m (k.on_none p r e h)
-  moves_keep Q k {r} (child how n pos ended due m) h = moves_keep Q k m (k.on-child how n r pos ended due h)
-  moves_keep Q k {r} (top how so ended due m) h = moves_keep Q k m (k.on-top how r so ended due h)
+  moves_keep Q k {r} (child how n pos ended due m) h = moves_keep Q k m (k.on_child how n r pos ended due h)
+  moves_keep Q k {r} (top how so ended due m) h = moves_keep Q k m (k.on_top how r so ended due h)

@@ -183,7 +183,7 @@ module _ {P : Type 0} (store : Store P) (old : List Record) where
     pub kill_kept : (n : ℕ) → RunningJob r.build n → Kept store old (kill_run store n r)
     kill_kept n j =
         kept_on (kill_carried store n r s j).moves
-        ((keeping_told store old).on-child (Failed causes.Kill) n (noted (Kill n) r) (kill_nested store n r s j) refl (kill_due store n r s j)
+        ((keeping_told store old).on_child (Failed causes.Kill) n (noted (Kill n) r) (kill_nested store n r s j) refl (kill_due store n r s j)
         (record { whole = k.whole; begun = k.begun; told = told_quiet k.told (Kill n) (quiet_kill n); finish = k.finish }))
 
     pub halt_kept : Busy r.build.plan r.build.nodes → Kept store old (halt_run store r)
