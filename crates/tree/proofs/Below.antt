@@ -1,5 +1,5 @@
 -- The nodes below a node, and the children of a make, one node after the other.
-use Rattle.std.proofs.Common.{◌≡◌, ℕ, zero, suc, ◌+◌, ◌<◌, ◌≤◌, Bool, true, false, cond, eqb, leb, List, [], ◌∷◌, ◌++◌, length, get_or, drop, sym, refl, ap, ◌∙◌, subst, ⊎_elim, append-nil, add_assoc, zero-add, arith}
+use Rattle.std.proofs.Common.{◌≡◌, ℕ, zero, suc, ◌+◌, ◌<◌, ◌≤◌, true, false, cond, leb, List, [], ◌∷◌, ◌++◌, length, get_or, drop, sym, refl, ap, ◌∙◌, subst, ⊎_elim, append-nil, add_assoc, zero-add, arith}
 use Rattle.std.proofs.lemmas.List.{drop_more, drop_all, drop-drop, append_assoc, length-append, length-drop, get_or_read_under}
 use Rattle.std.proofs.lemmas.Bool.{cases_Bool, cases_lt, both_ways, leb-true, leb-false, le-leb, lt-leb, eq-eqb, ne_eqb}
 use Rattle.tree.specs.declared.node.Node.{Node}

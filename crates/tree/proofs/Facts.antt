@@ -1,14 +1,15 @@
 -- What each call of a tree that grows keeps of its nodes and its open makes.
 use Rattle.std.proofs.Common.{◌≡◌, ℕ, ◌+◌, ◌<◌, ◌≤◌, Bool, true, false, cond, ◌&&◌, eqb, leb, List, [], ◌∷◌, ◌++◌, reverse, length, get_or, vec_items, sym, refl, ap, ◌∙◌, subst, ⊎_elim, add-zero, arith}
-use Rattle.std.proofs.lemmas.List.{get_or_push, get_or_append_left, length_push, reverse-append, length-reverse}
+use Rattle.std.proofs.lemmas.List.{get_or_push, length_push, reverse-append, length-reverse}
 use Rattle.std.proofs.lemmas.Bool.{cases_lt, both_ways, false≢true, and_from, le-leb}
 use Rattle.tree.specs.declared.growing.Growing.{Growing}
 use Rattle.tree.specs.declared.node.Node.{Node}
+use Rattle.tree.specs.declared.tree.Tree.{Tree}
 use Rattle.tree.specs.Nodes.{top, at, is_make, makes, total}
 use Rattle.tree.specs.Kept.{Counted, Topped, Placed, Together, Levelled, Sized, Parted, Fed, FedBefore, MakeOn, Stacked, Rising, Open, Innermost, steps_fit}
 use Rattle.tree.specs.Growth.{kind_of_job, job_node, make_node}
 use Rattle.tree.specs.Grown.{growth}
-use Rattle.tree.specs.Questions.{fresh}
+use Rattle.tree.specs.Questions.{fresh, first_job}
 use Rattle.tree.proofs.Push
 
 -- the open makes
@@ -181,10 +182,25 @@ facts_of g = (
   g.innermost,
 )
 
--- the same one inside the other, in the order of the fields, behind R and before the last two
-pub kept : {R S W : Type 0} (ns : List Node) (outer : List ℕ) (m : ℕ) → R → Facts ns outer m → S → W → R × (Counted ns × (Topped ns × (Placed ns × (Together ns × (Levelled ns × (Sized ns × (Parted ns × (FedBefore ns × (Stacked ns (opens outer m) × (Rising (opens outer m) × (Open ns (opens outer m) × (Innermost ns m × (S × (W × Unit {0}))))))))))))))
-kept ns outer m r f s w =
-    (r, (f.0, (f.1, (f.2, (f.3, (f.4, (f.5, (f.6, (f.7, (f.8, (f.9, (f.10, (f.11, (s, (w, tt)))))))))))))))
+-- the same by the names of the fields, with R of the room and S of the sum
+pub kept : {R S : Type 0} (ns : List Node) (outer : List ℕ) (m : ℕ) (wait : Bool) → R → Facts ns outer m → S → (wait ≡ true → m + 1 < length ns) → record { room : R; counted : Counted ns; topped : Topped ns; placed : Placed ns; together : Together ns; levelled : Levelled ns; sized : Sized ns; parted : Parted ns; fed : FedBefore ns; stacked : Stacked ns (opens outer m); rising : Rising (opens outer m); opened : Open ns (opens outer m); innermost : Innermost ns m; summed : S; waits : wait ≡ true → m + 1 < length ns }
+kept ns outer m wait r f s w = record {
+  room = r;
+  counted = f.0;
+  topped = f.1;
+  placed = f.2;
+  together = f.3;
+  levelled = f.4;
+  sized = f.5;
+  parted = f.6;
+  fed = f.7;
+  stacked = f.8;
+  rising = f.9;
+  opened = f.10;
+  innermost = f.11;
+  summed = s;
+  waits = w;
+}
 
 -- a job is no make
 pub job_no_make : (fails : Bool) → makes (kind_of_job fails) ≡ false
@@ -215,13 +231,32 @@ module _ (g : Growing) where
       make_facts (vec_items g.nodes) (vec_items g.outer) g.make (facts_of g) (make_node (growth g)) refl
       (ap (λ l. l + 1) level_is) (omega (arith, level_is)) refl g.waits n (omega (arith, g.counted.2)) refl
 
--- what a tree keeps beside its sum, one inside the other, in the order of the fields
-abbrev pub TreeFacts : List Node → Type 0
-TreeFacts ns = Counted ns × (Topped ns × (Placed ns × (Together ns × (Levelled ns × (Sized ns × (Parted ns × (Fed ns × ((1 ≡ total ns) × Unit {0}))))))))
+-- what a tree keeps beside its room
+abbrev pub TreeFacts : List Node → ℕ → Type 0
+TreeFacts ns steps = Counted ns × Topped ns × Placed ns × Together ns × Levelled ns × Sized ns × Parted ns × Fed ns × (steps ≡ total ns)
+
+-- the same by the names of the fields, with R of the room
+pub tree_kept : {R : Type 0} (ns : List Node) (steps : ℕ) → R → TreeFacts ns steps → record { room : R; counted : Counted ns; topped : Topped ns; placed : Placed ns; together : Together ns; levelled : Levelled ns; sized : Sized ns; parted : Parted ns; fed : Fed ns; summed : steps ≡ total ns }
+tree_kept ns steps r f = record {
+  room = r;
+  counted = f.0;
+  topped = f.1;
+  placed = f.2;
+  together = f.3;
+  levelled = f.4;
+  sized = f.5;
+  parted = f.6;
+  fed = f.7;
+  summed = f.8;
+}
+
+-- what a tree keeps
+pub facts_of_tree : (t : Tree) → TreeFacts (vec_items t.nodes) t.steps
+facts_of_tree t = (t.counted, t.topped, t.placed, t.together, t.levelled, t.sized, t.parted, t.fed, t.summed)
 
 -- a fresh tree
-pub fresh_facts : TreeFacts fresh
+pub fresh_facts : TreeFacts fresh 1
 unfolding total
 fresh_facts =
-    let f = job_facts (top ∷ []) [] 0 start_facts _ refl refl (omega arith) refl (λ e. absurd (false≢true e)) (omega arith) (omega arith) refl in
-    (f.0, (f.1, (f.2, (f.3, (f.4, (f.5, (f.6, (all_fed fresh 0 f (λ e. absurd (omega arith)), (refl, tt)))))))))
+    let f = job_facts (top ∷ []) [] 0 start_facts first_job refl refl (omega arith) refl (λ e. absurd (false≢true e)) (omega arith) (omega arith) refl in
+    (f.0, f.1, f.2, f.3, f.4, f.5, f.6, all_fed fresh 0 f (λ e. absurd (omega arith)), refl)

@@ -1,8 +1,8 @@
 -- What the lines of a script do where nothing forbids them, and which fault comes where something does.
-use Rattle.std.proofs.Common.{◌≡◌, ℕ, ◌+◌, ◌<◌, ◌≤◌, Bool, true, false, cond, ◌&&◌, eqb, ltb, leb, List, [], ◌∷◌, ◌++◌, length, Ok, Err, Result, sym, refl, ap, ◌∙◌, arith}
-use Rattle.std.proofs.lemmas.Bool.{lt-ltb, le-ltb, le-leb, lt-leb, eq-eqb, ne_eqb, and_from}
+use Rattle.std.proofs.Common.{◌≡◌, ℕ, ◌+◌, ◌<◌, ◌≤◌, Bool, false, leb, List, [], ◌∷◌, ◌++◌, length, Ok, Err, refl, arith}
+use Rattle.std.proofs.lemmas.Bool.{lt-ltb, le-ltb, le-leb, eq-eqb, ne_eqb, and_from}
 use Rattle.tree.specs.Nodes.{total}
-use Rattle.tree.specs.Growth.{Growth, job, make, done, closed, ended, finish, childless, job_node, make_node}
+use Rattle.tree.specs.Growth.{Growth, job, make, closed, ended, job_node, make_node}
 
 module _ (g : Growth) where
   pub job_said : (fails : Bool) (d : ℕ) → 1 ≤ d → d ≤ 999 → length g.nodes < 200 → total g.nodes + d ≤ 20000 → job fails d g ≡ Ok (record { nodes = g.nodes ++ job_node fails d g ∷ []; make = g.make; outer = g.outer; wait = false })

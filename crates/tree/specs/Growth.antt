@@ -1,5 +1,5 @@
 -- What each line of a script does to the nodes read so far, and what it may not do.
-use Rattle.std.specs.Prelude.{◌≡◌, ℕ, ◌+◌, Bool, true, false, cond, ◌&&◌, List, [], ◌∷◌, ◌++◌, length, Ok, Err, Result, ◌==◌, nat_le, nat_lt}
+use Rattle.std.specs.Prelude.{ℕ, ◌+◌, Bool, true, false, cond, ◌&&◌, List, [], ◌∷◌, ◌++◌, length, Ok, Err, Result, ◌==◌, nat_le, nat_lt}
 use Rattle.tree.specs.declared.node.Kind.{Kind}
 use Rattle.tree.specs.declared.node.Kind.TheVariants.{Make, Job, Fail}
 use Rattle.tree.specs.declared.node.Node.{Node}

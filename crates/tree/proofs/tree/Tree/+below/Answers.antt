@@ -1,12 +1,12 @@
-use Rattle.std.proofs.Common.{◌≡◌, ℕ, ◌+◌, ◌-◌, ◌<◌, length, drop, vec_items, sym, ap, ◌∙◌, subst, arith}
+use Rattle.std.proofs.Common.{◌≡◌, ℕ, ◌+◌, ◌-◌, ◌<◌, length, vec_items, ap, ◌∙◌, arith}
 use Rattle.std.proofs.lemmas.List.{get_or_read_under}
-use Rattle.tree.specs.Nodes.{top, at}
+use Rattle.tree.specs.Nodes.{top}
 use Rattle.tree.proofs.Below.{Summed, sum_bound, sum_end, left_none, left_out, sum_read, sum_below, not_behind}
 use Rattle.tree.proofs.tree.Tree.+below.Goals as goal
 use Rattle.tree.proofs.tree.Tree.+below.Goals.{After-below-more}
 
-pub overflow-add-sum : goal.overflow-add-sum
-overflow-add-sum t c =
+pub overflow_add-sum : goal.overflow_add-sum
+overflow_add-sum t c =
     let tree = c.args.self.now in
     let more = sum_read _ _ _ _ _ c.loop-next.invariant _ _ _ c.index.ensures c.index-in-loop-next.ensures (omega (arith, c.len.ensures)) tree.nodes.ok.0 c.if-index-n.true in
     omega (arith, tree.counted, sum_bound _ _ _ _ _ more)
@@ -24,8 +24,8 @@ descended t c =
     let late = not_behind ns tree.placed tree.topped c.args.n next c.len.result c.index.result.now c.index.ensures lt long c.if-index-n.true in
     sum_below ns c.args.n c.args.first (c.loop-next.sum + c.index-in-loop-next.result.now.steps) (next + 1) more (next + 1 - 1) c.below-more.result.0 c.below-more.result.1 (omega arith) c.below-more.ensures.result c.below-more.ensures.behind
 
-pub overflow-add-sum-then-levels-gt0 : goal.overflow-add-sum-then-levels-gt0
-overflow-add-sum-then-levels-gt0 t c = omega (arith, c.args.self.now.counted, sum_bound _ _ _ _ _ (descended t c))
+pub overflow_add-sum-then-levels-gt0 : goal.overflow_add-sum-then-levels-gt0
+overflow_add-sum-then-levels-gt0 t c = omega (arith, c.args.self.now.counted, sum_bound _ _ _ _ _ (descended t c))
 
 pub loop-next-preserved-then-levels-gt0 : goal.loop-next-preserved-then-levels-gt0
 loop-next-preserved-then-levels-gt0 t c = descended t c

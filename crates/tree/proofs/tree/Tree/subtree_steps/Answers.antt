@@ -1,10 +1,10 @@
-use Rattle.std.proofs.Common.{◌≡◌, ◌+◌, ◌<◌, length, drop, Ok, vec_items, sym, refl, ap, ◌∙◌, arith, rules}
+use Rattle.std.proofs.Common.{◌+◌, ◌<◌, length, drop, Ok, vec_items, refl, ap, ◌∙◌, arith}
 use Rattle.std.proofs.lemmas.List.{get_or_read_under}
 use Rattle.std.proofs.lemmas.Bool.{cond_above, cond_below}
 use Rattle.tree.specs.declared.tree.Tree.{Tree}
-use Rattle.tree.specs.Nodes.{top, at}
-use Rattle.tree.specs.Questions.{nodes_of, count_of, front_of, WholeSubtree}
-use Rattle.tree.proofs.Below.{front_total, total_drop, node_bound, whole_subtree}
+use Rattle.tree.specs.Nodes.{top}
+use Rattle.tree.specs.Questions.{nodes_of, count_of, WholeSubtree}
+use Rattle.tree.proofs.Below.{front_total, node_bound, whole_subtree}
 use Rattle.tree.proofs.tree.Tree.subtree_steps.Goals as goal
 
 law : (t : Tree) → WholeSubtree t
@@ -14,14 +14,14 @@ pub returns-then-n-len : goal.returns-then-n-len
 returns-then-n-len c =
     record { result = cond_above c.args.n (count_of c.args.self.now) _ _ _ (omega (arith, c.args.self.now.nodes.ok.0)) refl; law = law c.args.self.now }
 
-pub overflow-add-n : goal.overflow-add-n
-overflow-add-n c = omega (arith, c.args.self.now.counted, c.args.self.now.nodes.ok.0)
+pub overflow_add-n : goal.overflow_add-n
+overflow_add-n c = omega (arith, c.args.self.now.counted, c.args.self.now.nodes.ok.0)
 
 pub below-below-requires : goal.below-below-requires
 below-below-requires c = record { within = omega (arith, c.args.self.now.nodes.ok.0) }
 
-pub overflow-add-result : goal.overflow-add-result
-overflow-add-result c =
+pub overflow_add-result : goal.overflow_add-result
+overflow_add-result c =
     let t = c.args.self.now in
     let n = c.args.n in
     let ok = t.nodes.ok.0 in
