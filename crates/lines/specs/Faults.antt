@@ -1,5 +1,5 @@
 -- What a fault names: its number, its layer, and the line and the place of that line's first byte.
-use Rattle.std.specs.Prelude.{◌≡◌, ℕ, ◌<◌, ◌≤◌, Bool, true, false, cond, ◌||◌, List, length, Some, None, Ok, Err, Result, ◌==◌}
+use Rattle.std.specs.Prelude.{◌≡◌, ℕ, ◌<◌, ◌≤◌, true, false, cond, ◌||◌, List, length, Some, None, Ok, Err, Result, ◌==◌}
 use Rattle.lines.specs.declared.faults.Layer.{Layer}
 use Rattle.lines.specs.declared.faults.Layer.TheVariants.{Word, Line, Tree}
 use Rattle.lines.specs.declared.faults.LineFault.{LineFault}

@@ -1,5 +1,5 @@
 -- Words: how bytes are parted, and which bytes a line may have.
-use Rattle.std.specs.Prelude.{ℕ, suc, Bool, true, false, cond, ◌&&◌, ◌||◌, List, [], ◌∷◌, ◌==◌, nat_le}
+use Rattle.std.specs.Prelude.{ℕ, suc, Bool, true, cond, ◌&&◌, ◌||◌, List, [], ◌∷◌, ◌==◌, nat_le}
 
 -- how many bytes stand before the first b
 abbrev pub before : ℕ → List ℕ → ℕ

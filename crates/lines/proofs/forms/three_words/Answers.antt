@@ -1,4 +1,4 @@
-use Rattle.std.proofs.Common.{◌≡◌, ℕ, cond, Ok, Err, Result, sym, refl, ap, ◌∙◌, arith}
+use Rattle.std.proofs.Common.{◌≡◌, ℕ, Ok, Err, Result, sym, ap, ◌∙◌, arith}
 use Rattle.std.proofs.lemmas.Result.{err_from_is_err_and}
 use Rattle.std.proofs.lemmas.Bool.{cond-true}
 use Rattle.lines.specs.declared.forms.Form.{Form}
@@ -12,12 +12,12 @@ failed : (p : Place) (f : ℕ → Form) (r : Result ℕ ℕ) (v : Fault) → Err
 failed p f (Ok n) v e = absurd (let z : ◌≡◌ {A = ℕ} 0 1 = cc in omega arith)
 failed p f (Err n) v e = cc
 
-pub returns-in-err-steps : goal.returns-in-err-steps
-returns-in-err-steps c =
-    let p = err_from_is_err_and c.from-residual.result c.from-residual.ensures.1 in
+pub returns-in_err-steps : goal.returns-in_err-steps
+returns-in_err-steps c =
+    let p = err_from_is_err_and c.from_residual.result c.from_residual.ensures.1 in
     record {
       result =
           ap line_shown p.1 ∙ ap (λ e. Err (line_values e)) p.2 ∙
-          failed c.args.place _ _ _ c.in-err-steps.ensures.result ∙
-          ap (blamed c.args.place) (sym (cond-true _ _ _ (sym c.if-is-word.ensures.result)));
+          failed c.args.place _ _ _ c.in_err-steps.ensures.result ∙
+          ap (blamed c.args.place) (sym (cond-true _ _ _ (sym c.if-is_word.ensures.result)));
     }

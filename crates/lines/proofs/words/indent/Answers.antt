@@ -1,4 +1,4 @@
-use Rattle.std.proofs.Common.{drop, ap, arith}
+use Rattle.std.proofs.Common.{ap, arith}
 use Rattle.std.proofs.lemmas.List.{drop_all}
 use Rattle.lines.specs.Words.{indent}
 use Rattle.lines.proofs.Runs.{indent_more, indent_here}

@@ -10,20 +10,20 @@ returns-then-place-schedule c =
     let none = found_end here.schedule.now here.place c.if-place-schedule.true in
     record { result = none; after = refl; records = tt; law = reading_on here.schedule.now here.place _ none }
 
-pub returns-in-err-length : goal.returns-in-err-length
-returns-in-err-length c =
+pub returns-in_err-length : goal.returns-in_err-length
+returns-in_err-length c =
     let here = c.args.self.now in
-    let p = err_from_is_err_and c.from-residual.result c.from-residual.ensures.1 in
-    let none = found_none here.schedule.now here.place c.if-place-schedule.false _ c.in-err-length.ensures.result in
+    let p = err_from_is_err_and c.from_residual.result c.from_residual.ensures.1 in
+    let none = found_none here.schedule.now here.place c.if-place-schedule.false _ c.in_err-length.ensures.result in
     rw (p.1, p.2) (record { result = none; after = refl; records = tt; law = reading_on here.schedule.now here.place _ none })
 
 pub view-record-requires : goal.view-record-requires
 view-record-requires c =
-    body_fits c.args.self.now.schedule.now c.args.self.now.place c.if-place-schedule.false _ (sym c.in-ok-length.ensures.result)
+    body_fits c.args.self.now.schedule.now c.args.self.now.place c.if-place-schedule.false _ (sym c.in_ok-length.ensures.result)
 
 pub returns : goal.returns
 returns c =
     let here = c.args.self.now in
-    let told = sym c.in-ok-length.ensures.result in
+    let told = sym c.in_ok-length.ensures.result in
     let t = taken here.schedule.now here.place c.if-place-schedule.false _ c.view-record.result told c.view-record.ensures.records c.view-record.ensures.result in
     record { result = t.here; after = t.on; records = t.part; law = t.law }
