@@ -18,30 +18,28 @@ module _ (p : Pipe) (some : 0 < p.len) where
       let same = p.counted b ∙ ap (count b) first in
       omega (arith, first_counted b (queue p.ring (behind p.head 1) (p.len - 1)))
 
-pub overflow-sub-self-2 : goal.overflow-sub-self-2
-overflow-sub-self-2 c = is_counted c.args.self.now c.requires
+pub overflow_sub-self-2 : goal.overflow_sub-self-2
+overflow_sub-self-2 c = is_counted c.args.self.now c.requires
 
-pub invariant-of-self : goal.invariant-of-self
-invariant-of-self c =
+pub invariant_of-self : goal.invariant_of-self
+invariant_of-self c =
     let p = c.args.self.now in
     let b = get_or p.ring p.head 0 in
     let byte : b < 256 = omega arith in
     let some = is_counted p c.requires in
-    let less = lowered p.ins b p.ins_size byte some in (
-      omega arith,
-      (
-        omega arith,
-        (
-          λ k.
-              let before = p.counted k ∙ ap (count k) (first p c.requires) ∙ count_first k b _ in
-              omega (arith, less k),
-          (
-            omega (arith, lowered_total p.ins b p.ins_size byte some, p.all_in),
-            (p.all_out, (p.ring_size, (length-set _ _ _ ∙ p.ins_size, (p.outs_size, tt)))),
-          ),
-        ),
-      ),
-    )
+    let less = lowered p.ins b p.ins_size byte some in
+    record {
+      inside = omega arith;
+      few = omega arith;
+      counted = λ k.
+          let before = p.counted k ∙ ap (count k) (first p c.requires) ∙ count_first k b _ in
+          omega (arith, less k);
+      all_in = omega (arith, lowered_total p.ins b p.ins_size byte some, p.all_in);
+      all_out = p.all_out;
+      ring_size = p.ring_size;
+      ins_size = length-set _ _ _ ∙ p.ins_size;
+      outs_size = p.outs_size;
+    }
 
 pub returns : goal.returns
 returns c =

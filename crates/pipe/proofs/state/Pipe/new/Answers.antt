@@ -15,9 +15,18 @@ none (suc n) (suc k) = none n k
 nothing : total (λ k. get_or (zeros 256) k 0) ≡ 0
 nothing = total_same (λ _. 0) (λ k. get_or (zeros 256) k 0) (none 256) ∙ total_none
 
-pub invariant-of-result : goal.invariant-of-result
+pub invariant_of-result : goal.invariant_of-result
 unfolding queue count
-invariant-of-result c = (lit< tt, (lit≤ tt, (none 256, (nothing, (nothing, (refl, (refl, (refl, tt))))))))
+invariant_of-result c = record {
+  inside = lit< tt;
+  few = lit≤ tt;
+  counted = none 256;
+  all_in = nothing;
+  all_out = nothing;
+  ring_size = refl;
+  ins_size = refl;
+  outs_size = refl;
+}
 
 pub returns : goal.returns
 unfolding queue

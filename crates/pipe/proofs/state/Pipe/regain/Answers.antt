@@ -8,26 +8,24 @@ use Rattle.pipe.proofs.state.Pipe.regain.Goals as goal
 some_out : (p : Pipe) (b : ℕ) → b < 256 → 0 < get_or p.outs b 0 → 0 < p.total_out
 some_out p b byte some = omega (arith, total_point (λ k. get_or p.outs k 0) b byte, p.all_out)
 
-pub overflow-sub-self-2 : goal.overflow-sub-self-2
-overflow-sub-self-2 c = some_out c.args.self.now c.args.b (omega arith) (omega arith)
+pub overflow_sub-self-2 : goal.overflow_sub-self-2
+overflow_sub-self-2 c = some_out c.args.self.now c.args.b (omega arith) (omega arith)
 
-pub invariant-of-self : goal.invariant-of-self
-invariant-of-self c =
+pub invariant_of-self : goal.invariant_of-self
+invariant_of-self c =
     let p = c.args.self.now in
     let b = c.args.b in
-    let all = lowered_total p.outs b p.outs_size (omega arith) (omega arith) in (
-      p.inside,
-      (
-        omega arith,
-        (
-          p.counted,
-          (
-            p.all_in,
-            (omega (arith, all, p.all_out), (p.ring_size, (p.ins_size, (length-set _ _ _ ∙ p.outs_size, tt)))),
-          ),
-        ),
-      ),
-    )
+    let all = lowered_total p.outs b p.outs_size (omega arith) (omega arith) in
+    record {
+      inside = p.inside;
+      few = omega arith;
+      counted = p.counted;
+      all_in = p.all_in;
+      all_out = omega (arith, all, p.all_out);
+      ring_size = p.ring_size;
+      ins_size = p.ins_size;
+      outs_size = length-set _ _ _ ∙ p.outs_size;
+    }
 
 pub enter-requires : goal.enter-requires
 enter-requires c = let some = some_out c.args.self.now c.args.b (omega arith) (omega arith) in omega arith
