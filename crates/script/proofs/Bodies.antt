@@ -1,11 +1,11 @@
 -- What reading a body keeps, line by line.
-use Rattle.std.proofs.Common.{◌≡◌, ℕ, ◌+◌, ◌-◌, ◌<◌, ◌≤◌, Bool, true, false, cond, ◌&&◌, eqb, ltb, leb, List, [], ◌∷◌, length, drop, Some, None, Ok, Err, Option, Result, sym, refl, ap, ◌∙◌, subst, arith}
+use Rattle.std.proofs.Common.{◌≡◌, ℕ, ◌+◌, ◌-◌, ◌<◌, ◌≤◌, Bool, true, false, cond, ◌&&◌, ltb, leb, List, [], ◌∷◌, length, drop, Some, None, Ok, Err, Option, Result, sym, refl, ap, ◌∙◌, subst, arith}
 use Rattle.std.proofs.lemmas.List.{length-drop}
 use Rattle.std.proofs.lemmas.Bool.{ltb-true}
 use Rattle.lines.specs.declared.forms.Form.{Form}
 use Rattle.lines.specs.declared.forms.Form.TheVariants.{Job, Fail, Make, Done, Wait}
 use Rattle.lines.specs.declared.place.Place.{Place}
-use Rattle.lines.specs.Faults.{Fault, fault_at, blamed}
+use Rattle.lines.specs.Faults.{Fault, blamed}
 use Rattle.lines.specs.Words.{before}
 use Rattle.tree.specs.Growth.{Growth, job, make, done, closed, childless, finish, ended}
 use Rattle.tree.specs.Nodes.{total}

@@ -1,14 +1,13 @@
 -- Lines that are accepted are a body, followed by the bodies of the makes around it.
-use Rattle.std.proofs.Common.{◌≡◌, ℕ, suc, ◌+◌, ◌<◌, ◌≤◌, Bool, true, false, cond, not, eqb, ◌⊎◌, List, [], ◌∷◌, ◌++◌, length, Ok, Err, Result, sym, refl, ap, ◌∙◌, subst, inl, inr, ⊎_elim, append-nil, add-zero, arith}
+use Rattle.std.proofs.Common.{◌≡◌, ℕ, suc, ◌+◌, ◌<◌, Bool, true, false, cond, not, eqb, ◌⊎◌, List, [], ◌∷◌, ◌++◌, length, Ok, sym, refl, ap, ◌∙◌, subst, inl, inr, ⊎_elim, append-nil, add-zero, arith}
 use Rattle.std.proofs.lemmas.List.{append_assoc, length-append, length_push}
 use Rattle.std.proofs.lemmas.Bool.{eq-eqb, ne_eqb, both_ways}
 use Rattle.lines.specs.declared.forms.Form.{Form}
 use Rattle.lines.specs.declared.forms.Form.TheVariants.{Job, Fail, Make, Done, Wait}
 use Rattle.tree.specs.declared.node.Node.{Node}
-use Rattle.tree.specs.declared.node.Kind.TheVariants as kind
-use Rattle.tree.specs.Growth.{Growth, job_node, make_node, childless, kind_of_job}
-use Rattle.script.specs.Reading.{then, grow}
-use Rattle.script.specs.Grammar.{Body, ends, wait, job, fail, make, job_of}
+use Rattle.tree.specs.Growth.{Growth, job_node, make_node, childless}
+use Rattle.script.specs.Reading.{grow}
+use Rattle.script.specs.Grammar.{Body, ends, wait, job, fail, make}
 use Rattle.script.proofs.Inverse.{then_ok, job_done, make_done, close_done}
 use Rattle.script.proofs.Runs.{run, state}
 

@@ -1,23 +1,23 @@
 -- A text is a script of the nodes that its lines come to, and of no others.
-use Rattle.std.proofs.Common.{◌≡◌, ℕ, ◌+◌, ◌<◌, ◌≤◌, Bool, true, false, cond, eqb, leb, List, [], ◌∷◌, ◌++◌, length, drop, Ok, Err, Result, sym, refl, ap, ◌∙◌, subst, append-nil, arith}
+use Rattle.std.proofs.Common.{◌≡◌, ℕ, ◌+◌, ◌<◌, ◌≤◌, Bool, true, false, cond, leb, List, [], ◌∷◌, ◌++◌, length, Ok, Err, Result, sym, refl, ap, ◌∙◌, subst, append-nil, arith}
 use Rattle.std.proofs.lemmas.Bool.{le-leb, leb-true, eqb-false}
 use Rattle.lines.specs.declared.forms.Form.{Form}
 use Rattle.lines.specs.Words.{parts}
 use Rattle.lines.specs.Faults.{Fault, fault_at}
 use Rattle.tree.specs.declared.node.Node.{Node}
 use Rattle.tree.specs.Nodes.{top, total}
-use Rattle.tree.specs.Growth.{Growth, start, finish, childless}
+use Rattle.tree.specs.Growth.{Growth, start, childless}
 use Rattle.tree.proofs.Said.{ended_said}
 use Rattle.script.specs.Grammar.{Script, Body, Lines, Shallow}
 use Rattle.script.specs.Reading.{reading, read_text, first_place}
 use Rattle.script.specs.Script.{Exact}
 use Rattle.script.specs.Values.{nowhere}
-use Rattle.script.proofs.Complete.{complete, Parsed, Tail, over}
+use Rattle.script.proofs.Complete.{complete, Tail, over}
 use Rattle.script.proofs.Inverse.{end_done}
 use Rattle.script.proofs.Limits.{Limits, run_limits}
-use Rattle.script.proofs.Runs.{run, state}
+use Rattle.script.proofs.Runs.{state}
 use Rattle.script.proofs.Sound.{Room, sound}
-use Rattle.script.proofs.Texts.{unparts, unparts_parts, accepted, accepts}
+use Rattle.script.proofs.Texts.{unparts_parts, accepted, accepts}
 
 total_two : (x : Node) (xs : List Node) → total (top ∷ []) + total (x ∷ xs) ≡ total (top ∷ (x ∷ xs))
 unfolding total

@@ -1,12 +1,12 @@
 -- Lines that are accepted keep within the limits.
-use Rattle.std.proofs.Common.{◌≡◌, ℕ, ◌+◌, ◌<◌, ◌≤◌, Bool, true, false, cond, List, [], ◌∷◌, ◌++◌, length, Ok, Err, sym, refl, ap, ◌∙◌, subst, arith}
+use Rattle.std.proofs.Common.{◌≡◌, ◌+◌, ◌<◌, ◌≤◌, true, false, cond, List, [], ◌∷◌, ◌++◌, length, Ok, sym, subst, arith}
 use Rattle.std.proofs.lemmas.List.{length_push}
 use Rattle.std.proofs.lemmas.Bool.{both_ways}
 use Rattle.lines.specs.declared.forms.Form.{Form}
 use Rattle.lines.specs.declared.forms.Form.TheVariants.{Job, Fail, Make, Done, Wait}
 use Rattle.tree.specs.declared.node.Node.{Node}
 use Rattle.tree.specs.Nodes.{total, makes}
-use Rattle.tree.specs.Growth.{Growth, job_node, make_node, childless, kind_of_job}
+use Rattle.tree.specs.Growth.{Growth, job_node, make_node, childless}
 use Rattle.tree.proofs.Facts.{job_no_make}
 use Rattle.tree.proofs.Push.{total_push}
 use Rattle.script.specs.Reading.{grow}

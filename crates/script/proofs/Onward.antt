@@ -1,5 +1,5 @@
 -- What one line, or the end of the text, does to what is read.
-use Rattle.std.proofs.Common.{◌≡◌, ℕ, ◌+◌, ◌<◌, ◌≤◌, Bool, true, false, cond, ltb, List, [], ◌∷◌, length, take, drop, Ok, Err, Result, sym, refl, ap, ◌∙◌, subst, ⊎_elim, add_assoc, arith}
+use Rattle.std.proofs.Common.{◌≡◌, ℕ, ◌+◌, ◌<◌, ◌≤◌, Bool, true, false, cond, ltb, List, [], ◌∷◌, length, take, drop, Ok, Err, Result, sym, refl, ap, ◌∙◌, subst, ⊎_elim, arith}
 use Rattle.std.proofs.lemmas.List.{drop_all, drop-drop, take_all, length-drop, length-take-le}
 use Rattle.std.proofs.lemmas.Bool.{cases_Bool, ltb-true, ltb-false}
 use Rattle.lines.specs.declared.forms.Form.{Form}
@@ -8,7 +8,6 @@ use Rattle.lines.specs.Words.{before, parts, every, line_byte}
 use Rattle.lines.specs.Forms.{read_line}
 use Rattle.lines.specs.Faults.{Fault, blamed}
 use Rattle.lines.proofs.Runs.{parts_cut, parts_one, some_parts}
-use Rattle.tree.specs.declared.node.Node.{Node}
 use Rattle.tree.specs.Growth.{Growth, finish}
 use Rattle.script.specs.Reading.{then, grow, past, at_end, read_parts, reading}
 use Rattle.script.specs.Steps.{Within, line_at, ended_at, Line, Ends, Faulty}

@@ -1,5 +1,5 @@
 -- Forms one after the other.
-use Rattle.std.proofs.Common.{◌≡◌, ℕ, Bool, List, [], ◌∷◌, ◌++◌, Ok, Err, Result, sym, refl, ap, ◌∙◌}
+use Rattle.std.proofs.Common.{◌≡◌, ℕ, Bool, List, [], ◌∷◌, ◌++◌, Ok, Err, Result, sym, refl, ◌∙◌}
 use Rattle.lines.specs.declared.forms.Form.{Form}
 use Rattle.tree.specs.declared.node.Node.{Node}
 use Rattle.tree.specs.Growth.{Growth}

@@ -1,14 +1,13 @@
 -- The lines of a body come to its nodes.
-use Rattle.std.proofs.Common.{◌≡◌, ℕ, suc, ◌+◌, ◌<◌, ◌≤◌, Bool, true, false, cond, not, eqb, List, [], ◌∷◌, ◌++◌, length, Ok, Err, Result, sym, refl, ap, ◌∙◌, subst, append-nil, arith}
+use Rattle.std.proofs.Common.{◌≡◌, ℕ, suc, ◌+◌, ◌<◌, ◌≤◌, Bool, true, false, cond, not, eqb, List, [], ◌∷◌, ◌++◌, length, Ok, sym, refl, ap, ◌∙◌, append-nil, arith}
 use Rattle.std.proofs.lemmas.List.{append_assoc, length-append, length_push}
 use Rattle.std.proofs.lemmas.Bool.{eq-eqb, ne_eqb}
 use Rattle.lines.specs.declared.forms.Form.{Form}
-use Rattle.lines.specs.declared.forms.Form.TheVariants.{Job, Fail, Make, Done, Wait}
+use Rattle.lines.specs.declared.forms.Form.TheVariants.{Job, Fail, Make, Done}
 use Rattle.tree.specs.declared.node.Node.{Node}
-use Rattle.tree.specs.declared.node.Kind.{Kind}
 use Rattle.tree.specs.declared.node.Kind.TheVariants as kind
 use Rattle.tree.specs.Nodes.{total}
-use Rattle.tree.specs.Growth.{Growth, job_node, make_node, kind_of_job}
+use Rattle.tree.specs.Growth.{kind_of_job}
 use Rattle.tree.proofs.Below.{total_append}
 use Rattle.tree.proofs.Push.{total_push}
 use Rattle.tree.proofs.Said.{job_said, make_said, closed_said}

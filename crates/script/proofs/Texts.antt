@@ -1,11 +1,11 @@
 -- A text and its lines.
-use Rattle.std.proofs.Common.{◌≡◌, ℕ, ◌+◌, ◌<◌, ◌≤◌, Bool, true, false, cond, ◌&&◌, eqb, List, [], ◌∷◌, ◌++◌, length, Ok, Err, Result, sym, refl, ap, ◌∙◌, subst, arith}
-use Rattle.std.proofs.lemmas.Bool.{ne_eqb, both_ways, and_parts, eqb-true, cases_Bool}
+use Rattle.std.proofs.Common.{◌≡◌, ℕ, true, false, cond, eqb, List, [], ◌∷◌, ◌++◌, Ok, sym, refl, ap, ◌∙◌, subst}
+use Rattle.std.proofs.lemmas.Bool.{ne_eqb, both_ways, and_parts, eqb-true}
 use Rattle.lines.specs.declared.forms.Form.{Form}
 use Rattle.lines.specs.declared.place.Place.{Place}
 use Rattle.lines.specs.Words.{parts, onto, every, line_byte}
 use Rattle.lines.specs.Forms.{read_line}
-use Rattle.lines.specs.Faults.{Fault, blamed}
+use Rattle.lines.specs.Faults.{blamed}
 use Rattle.lines.proofs.Runs.{some_parts}
 use Rattle.tree.specs.declared.node.Node.{Node}
 use Rattle.tree.specs.Growth.{Growth, finish}

@@ -1,5 +1,5 @@
 -- What the lines of a text come to, one after the other: a tree's nodes, or the first fault.
-use Rattle.std.specs.Prelude.{ℕ, ◌+◌, Bool, true, false, cond, List, [], ◌∷◌, length, drop, Ok, Err, Result, nat_le}
+use Rattle.std.specs.Prelude.{ℕ, ◌+◌, true, false, cond, List, [], ◌∷◌, length, drop, Ok, Err, Result, nat_le}
 use Rattle.lines.specs.declared.forms.Form.{Form}
 use Rattle.lines.specs.declared.forms.Form.TheVariants.{Job, Fail, Make, Done, Wait}
 use Rattle.lines.specs.declared.place.Place.{Place}

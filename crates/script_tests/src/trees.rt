@@ -186,7 +186,7 @@ fn totals(rt: HostRuntime) -> Result<(), Fail> {
     assert_eq!(rt; tree.subtree_steps(2)?, 4);
     assert_eq!(rt; tree.subtree_steps(1)?, 2);
     let children = tree.children(rt.alloc(), 0)?;
-    assert_eq!(rt; children.as_slice(), &[1, 2, 6]);
+    assert_eq!(rt; children.as_slice(), [1, 2, 6].as_slice());
     assert_eq!(rt; tree.children(rt.alloc(), 4)?.len(), 0);
     assert!(rt; tree.kind(7).is_err());
     Ok(())

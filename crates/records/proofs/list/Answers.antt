@@ -14,4 +14,4 @@ loop-next-smaller c = ahead_falls _ _ _ (rw c.in-Some.is at c.in-Ok.ensures.reco
 pub loop-next-preserved : goal.loop-next-preserved
 loop-next-preserved c =
     moved (vec_items c.loop-next.out) _ (listed (left_of c.next.new.self))
-    c.in-ok-list-record.ensures (ap listed (rw c.in-Some.is at c.in-Ok.ensures.law)) c.loop-next.invariant
+    c.in_ok-list_record.ensures (ap listed (rw c.in-Some.is at c.in-Ok.ensures.law)) c.loop-next.invariant

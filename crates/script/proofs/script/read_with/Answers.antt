@@ -15,11 +15,11 @@ by_lines text g h e =
     ap (λ b. cond b (reading text start first_place) (Err (fault_at 1 nowhere))) (le-leb (length text) 16384 h) ∙
     ap (λ k. reading text k first_place) (sym e)
 
-pub returns-then-text-gt-MAX-BYTES : goal.returns-then-text-gt-MAX-BYTES
-returns-then-text-gt-MAX-BYTES c =
+pub returns-then-text-gt-MAX_BYTES : goal.returns-then-text-gt-MAX_BYTES
+returns-then-text-gt-MAX_BYTES c =
     let text = c.args.text.now in
     record {
-      result = (ap (λ b. cond b (reading text start first_place) (Err (fault_at 1 nowhere))) (lt-leb (length text) 16384 c.if-text-gt-MAX-BYTES.true), refl);
+      result = (ap (λ b. cond b (reading text start first_place) (Err (fault_at 1 nowhere))) (lt-leb (length text) 16384 c.if-text-gt-MAX_BYTES.true), refl);
       law = exact text;
     }
 
@@ -30,12 +30,12 @@ whole-requires c =
       top = ap (λ (g : Growth). length g.outer) c.restart.ensures.result;
     }
 
-pub returns-in-err-whole : goal.returns-in-err-whole
-returns-in-err-whole c =
-    let e = err_from_is_err_and c.from-residual.result c.from-residual.ensures.1 in
+pub returns-in_err-whole : goal.returns-in_err-whole
+returns-in_err-whole c =
+    let e = err_from_is_err_and c.from_residual.result c.from_residual.ensures.1 in
     let text = c.args.text.now in
     record {
-      result = rw (e.1, e.2) (by_lines text _ c.if-text-gt-MAX-BYTES.false c.restart.ensures.result ∙ c.in-err-whole.ensures.result, refl);
+      result = rw (e.1, e.2) (by_lines text _ c.if-text-gt-MAX_BYTES.false c.restart.ensures.result ∙ c.in_err-whole.ensures.result, refl);
       law = exact text;
     }
 
@@ -43,6 +43,6 @@ pub returns : goal.returns
 returns c =
     let text = c.args.text.now in
     record {
-      result = (exact text).is_script (nodes_of c.in-ok-whole.whole) (by_lines text _ c.if-text-gt-MAX-BYTES.false c.restart.ensures.result ∙ c.in-ok-whole.ensures.result);
+      result = (exact text).is_script (nodes_of c.in_ok-whole.whole) (by_lines text _ c.if-text-gt-MAX_BYTES.false c.restart.ensures.result ∙ c.in_ok-whole.ensures.result);
       law = exact text;
     }

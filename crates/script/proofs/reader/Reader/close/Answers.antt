@@ -1,18 +1,18 @@
-use Rattle.std.proofs.Common.{◌≡◌, Ok, sym, refl, ap, ◌∙◌, subst}
+use Rattle.std.proofs.Common.{Ok, refl, ap, ◌∙◌, subst}
 use Rattle.std.proofs.lemmas.Result.{err_from_is_err_and}
 use Rattle.lines.specs.Faults.{blamed}
 use Rattle.tree.specs.Grown.{growth}
-use Rattle.script.specs.Steps.{Next, Line, Closed}
+use Rattle.script.specs.Steps.{Next}
 use Rattle.script.proofs.Onward.{reading_faulty, reading_end}
-use Rattle.script.proofs.Bodies.{line_went, line_fault, done_outer, end_nested, close_read}
+use Rattle.script.proofs.Bodies.{end_nested, close_read}
 use Rattle.script.proofs.reader.Reader.close.Goals as goal
 
-pub returns-in-err-form : goal.returns-in-err-form
-returns-in-err-form c =
-    let p = err_from_is_err_and c.from-residual.result c.from-residual.ensures.1 in
+pub returns-in_err-form : goal.returns-in_err-form
+returns-in_err-form c =
+    let p = err_from_is_err_and c.from_residual.result c.from_residual.ensures.1 in
     let r = c.args.self.now in
     record {
-      result = rw (p.1, p.2) (reading_faulty r.text.now r.place (growth c.args.tree.now) _ c.in-err-form.ensures.after.0);
+      result = rw (p.1, p.2) (reading_faulty r.text.now r.place (growth c.args.tree.now) _ c.in_err-form.ensures.after.0);
       unaltered = refl;
     }
 
@@ -20,14 +20,14 @@ pub returns-in-Some : goal.returns-in-Some
 returns-in-Some c =
     let r = c.args.self.now in
     record {
-      result = close_read r.text.now (growth c.args.tree.now) r.place _ c.in-Some.form c.in-ok-form.field-0 c.requires.within c.requires.stopped c.in-Some.is c.in-ok-form.ensures.after c.grow.result _ c.grow.ensures.after;
+      result = close_read r.text.now (growth c.args.tree.now) r.place _ c.in-Some.form c.in_ok-form.field-0 c.requires.within c.requires.stopped c.in-Some.is c.in_ok-form.ensures.after c.grow.result _ c.grow.ensures.after;
       unaltered = refl;
     }
 
 pub returns-in-None : goal.returns-in-None
 returns-in-None c =
     let r = c.args.self.now in
-    let none = subst (λ o. Next r.text.now r.place (Ok o) c.next-line.new.place) c.in-None.is c.in-ok-form.ensures.after in
+    let none = subst (λ o. Next r.text.now r.place (Ok o) c.next_line.new.place) c.in-None.is c.in_ok-form.ensures.after in
     record {
       result = reading_end r.text.now r.place (growth c.args.tree.now) none.0 ∙ ap (blamed r.place) (end_nested (growth c.args.tree.now) c.requires.nested);
       unaltered = refl;
