@@ -1,5 +1,5 @@
 -- What a first line says: `pipe BYTES` or `sem COUNT`, with ` keep` behind it if wanted.
-use Rattle.std.specs.Prelude.{ℕ, ◌≤◌, Bool, true, false, cond, ◌&&◌, List, [], ◌∷◌, length, Some, None, Ok, Err, codes, Option, Result, nat_le}
+use Rattle.std.specs.Prelude.{ℕ, ◌≤◌, Bool, true, false, cond, List, length, Some, None, Ok, Err, codes, Option, Result, nat_le}
 use Rattle.std.specs.Borrow.{Bor}
 use Rattle.decimal.specs.Counts.{count}
 use Rattle.first_line.specs.Cuts.{cut_at, is_word}

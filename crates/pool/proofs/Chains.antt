@@ -1,5 +1,5 @@
 -- Chains of steps end to end. Assumes nothing.
-use Rattle.std.proofs.Common.{◌≡◌, List, [], ◌∷◌, ◌++◌, refl, subst}
+use Rattle.std.proofs.Common.{List, [], ◌∷◌, ◌++◌, refl, subst}
 use Rattle.pool.specs.Chain.{Chain}
 
 module _ {S P : Type 0} (did : S → P → P → Type 0) where

@@ -29,7 +29,7 @@ fn make<P: Pool>(rt: &impl Abort, pool: &mut P, call: Call) -> Result<(), Fail> 
         Call::Take(byte) => {
             assert_eq!(rt; pool.take(), byte);
             Ok(())
-        },
+        }
         Call::Put(byte, refused) => {
             let number = match pool.put(byte) {
                 Ok(()) => None,

@@ -21,4 +21,4 @@ loop-b-preserved c =
 pub returns : goal.returns
 returns c =
     let xs = c.args.text.now in
-    record { result = ap not c.is-empty.ensures ∙ word xs (c.loop-b.invariant ∙ show_end xs c.loop-b.b-index c.loop-b-test.false) }
+    record { result = ap not c.is_empty.ensures ∙ word xs (c.loop-b.invariant ∙ show_end xs c.loop-b.b-index c.loop-b-test.false) }
