@@ -10,7 +10,7 @@ use Rattle.rules.specs.Refusing.{short_of, call_refusal, or_18, job_refusal, ans
 use Rattle.rules.specs.declared.progress.Progress.{Progress}
 use Rattle.rules.specs.declared.progress.State.{State}
 use Rattle.rules.specs.declared.progress.State.TheVariants.{Waiting, Running}
-use Rattle.rules.specs.declared.tokens.Held.{Held}
+use Rattle.rules.specs.Builds.{Held}
 use Rattle.std.proofs.lemmas.List.{get_or_past}
 use Rattle.std.proofs.lemmas.Bool.{and_parts, both_ways, cases_eq, cases_lt, ltb-false, not-false, not-true}
 use Rattle.build.specs.Hands.{in_hands, short_at}

@@ -2,7 +2,7 @@
 use Rattle.std.proofs.Common.{◌≡◌, ℕ, ◌+◌, ◌<◌, ◌≤◌, Bool, true, false, cond, ltb, List, map, length, get_or, vec_capacity, sym, refl, ap, ◌∙◌, subst, arith, length-append}
 use lib.ListN.{length-map}
 use Rattle.pool.specs.Ways.{Ways}
-use Rattle.rules.specs.Builds.{Build, unbegun, at, with_state, tokens_of}
+use Rattle.rules.specs.Builds.{Build, Loss, unbegun, at, with_state, tokens_of}
 use Rattle.rules.specs.Calls.{stepped}
 use Rattle.rules.specs.Ending.{noted_loss}
 use Rattle.rules.specs.Events.{accepted, accepts_start, accepts_work, state_of}
@@ -12,7 +12,6 @@ use Rattle.rules.specs.declared.progress.End.TheVariants.{Well, Failed}
 use Rattle.rules.specs.declared.progress.Event.TheVariants as events
 use Rattle.rules.specs.declared.progress.Progress.{Progress}
 use Rattle.rules.specs.declared.progress.State.TheVariants.{Waiting, Running}
-use Rattle.rules.specs.declared.tokens.Lost.{Lost}
 use Rattle.schedule.specs.Buffers.{Wrote}
 use Rattle.schedule.specs.Records.{bytes, size}
 use Rattle.schedule.specs.declared.record.Record.{Record}
@@ -21,6 +20,7 @@ use Rattle.std.proofs.lemmas.Bool.{lt-ltb}
 use Rattle.build.specs.Changes.{Noted, Changed, Remade, reach}
 use Rattle.build.specs.Ended.{ended_record, noted_at}
 use Rattle.build.specs.Fits.{Fit, Fits, Backed}
+use Rattle.build.specs.Lost.{memory}
 use Rattle.build.specs.Models.{model, in_hand}
 use Rattle.build.specs.Rooms.{room, unended, unstarted, bytes_left}
 use Rattle.build.specs.Turning.{Kept, Still}
@@ -43,22 +43,22 @@ pub read_at : (b : Build) (n : ℕ) (x : Progress) → n < length b.nodes → x 
 read_at b n x inside e = get_or_read b.nodes n x inside e unbegun
 
 -- a change of the build alone, and then the record
-pub changed_by : (e : Work) {e₁ e' : Work} {old new : List ℕ} (b : Build) {r : Record} (spare : ℕ) → Noted e₁ old r e' new → e₁.written ≡ e.written → model e₁ ≡ b → Fits b (vec_capacity e₁.tokens.held) (vec_capacity e₁.losses) (vec_capacity e₁.nodes) → room b + size r + spare ≤ room (model e) → Changed e old b r spare e' new
+pub changed_by : (e : Work) {e₁ e' : Work} {old new : List ℕ} (b : Build) {r : Record} (spare : ℕ) → Noted e₁ old r e' new → e₁.written ≡ e.written → model e₁ ≡ b → Fits b (vec_capacity e₁.tokens.held) (memory e₁.losses) (vec_capacity e₁.nodes) → room b + size r + spare ≤ room (model e) → Changed e old b r spare e' new
 changed_by e {e₁} {e'} {old} {new} b {r} spare noted place is fits enough =
     let build : model e' ≡ b = ap model noted.same ∙ is in
     record {
       build = build;
       wrote = subst (λ n. Wrote old n (bytes r) new e'.written) place noted.wrote;
-      fit = subst Fit (sym noted.same) (subst (λ d. Fits d (vec_capacity e₁.tokens.held) (vec_capacity e₁.losses) (vec_capacity e₁.nodes)) (sym is) fits);
+      fit = subst Fit (sym noted.same) (subst (λ d. Fits d (vec_capacity e₁.tokens.held) (memory e₁.losses) (vec_capacity e₁.nodes)) (sym is) fits);
       spent = omega (arith, noted.wrote.end, ap room build);
     }
 
 -- a change of the build without a record
-pub remade_by : (e e' : Work) (b : Build) → e'.written ≡ e.written → model e' ≡ b → Fits b (vec_capacity e'.tokens.held) (vec_capacity e'.losses) (vec_capacity e'.nodes) → room b ≤ room (model e) → Remade e b e'
+pub remade_by : (e e' : Work) (b : Build) → e'.written ≡ e.written → model e' ≡ b → Fits b (vec_capacity e'.tokens.held) (memory e'.losses) (vec_capacity e'.nodes) → room b ≤ room (model e) → Remade e b e'
 remade_by e e' b place is fits falls = record {
   build = is;
   written = place;
-  fit = subst (λ d. Fits d (vec_capacity e'.tokens.held) (vec_capacity e'.losses) (vec_capacity e'.nodes)) (sym is) fits;
+  fit = subst (λ d. Fits d (vec_capacity e'.tokens.held) (memory e'.losses) (vec_capacity e'.nodes)) (sym is) fits;
   spent = omega (arith, ap room is);
 }
 
@@ -97,16 +97,14 @@ pub ended_size : (how : End) (n : ℕ) → size (ended_record how n) ≤ 3
 ended_size Well n = omega arith
 ended_size (Failed c) n = omega arith
 
--- no more is noted than tokens are in hand
-loss_few : (t : Bool) (n : ℕ) (ts : List ℕ) (ls : List Lost) → length (noted_loss t n ts ls) ≤ length ls + length ts
+-- one loss is noted at the most
+loss_few : (t : Bool) (n : ℕ) (ts : List ℕ) (ls : List Loss) → length (noted_loss t n ts ls) ≤ length ls + 1
 loss_few true n ts ls = omega arith
-loss_few false n ts ls =
-    let lost : ℕ → Lost = λ b. record { job = n; byte = b } in
-    omega (arith, length-append ls (map lost ts), length-map ts lost)
+loss_few false n ts ls = omega arith
 
-pub noted_few : (how : End) (n : ℕ) (b : Build) → length (noted_at how n b.plan b.tokens b.losses) ≤ length b.losses + length b.tokens
+pub noted_few : (how : End) (n : ℕ) (b : Build) → length (noted_at how n b.plan b.tokens b.losses) ≤ length b.losses + 1
 noted_few Well n b = omega arith
-noted_few (Failed c) n b = omega (arith, loss_few (is_make b.plan n) n (tokens_of b (b.plan.make n)) b.losses, tokens_few b (b.plan.make n))
+noted_few (Failed c) n b = loss_few (is_make b.plan n) n (tokens_of b (b.plan.make n)) b.losses
 
 -- what is kept, on whichever pool
 pub still_kept : {P : Type 0} {w : Ways P} {q : P} {e e' : Work} {limit : ℕ} → Kept w e limit e' q → Still e limit e'

@@ -1,7 +1,7 @@
 -- What a build at work keeps, through each change of a node. Assumes nothing.
 use Rattle.std.proofs.Common.{◌≡◌, ℕ, zero, suc, ◌+◌, ◌-◌, ◌*◌, ◌<◌, ◌≤◌, Bool, true, false, cond, eqb, List, [], ◌∷◌, ◌++◌, map, reverse, length, get_or, set, sym, refl, ap, ◌∙◌, subst, ⊎_elim, arith, length-append, length-set}
 use lib.ListN.{length-map}
-use Rattle.rules.specs.Builds.{Build, unbegun, at, with_node, with_state, with_tokens, in_state, tokens_of}
+use Rattle.rules.specs.Builds.{Build, Held, Loss, unbegun, at, with_node, with_state, with_tokens, in_state, tokens_of}
 use Rattle.rules.specs.Calls.{stepped, stop}
 use Rattle.rules.specs.Ending.{marked, noted_loss, goes_back, keep_held}
 use Rattle.rules.specs.Lists.{those, put_if, if_so}
@@ -9,12 +9,11 @@ use Rattle.rules.specs.Plans.{Plan, is_make}
 use Rattle.rules.specs.declared.progress.Progress.{Progress}
 use Rattle.rules.specs.declared.progress.State.{State}
 use Rattle.rules.specs.declared.progress.State.TheVariants.{Waiting, Running, Good, Failed}
-use Rattle.rules.specs.declared.tokens.Held.{Held}
-use Rattle.rules.specs.declared.tokens.Lost.{Lost}
 use Rattle.rules.proofs.Telling.{set_keeps}
 use Rattle.std.proofs.lemmas.List.{length-reverse, get_or-set_same, get_or-set_other}
 use Rattle.std.proofs.lemmas.Bool.{cases_eq}
 use Rattle.build.specs.Fits.{StepsLeft, FitsBut, Fits}
+use Rattle.build.specs.Lost.{Room}
 use Rattle.build.specs.Rooms.{sum_from, unstarted, unended, to_start, to_end, bytes_left, node_room, room}
 use Rattle.build.proofs.Sums.{sum_set, sum_point}
 
@@ -49,11 +48,20 @@ module _ (b : Build) (n : ℕ) (y : Progress) (inside : n < length b.nodes) wher
       (cases_eq k n)
 
 -- one node changed, with these tokens in hand and these noted
-abbrev pub altered : Build → ℕ → Progress → List Held → List Lost → Build
+abbrev pub altered : Build → ℕ → Progress → List Held → List Loss → Build
 altered b n y ts ls = record { plan = b.plan; keep = b.keep; nodes = set b.nodes n y; tokens = ts; losses = ls }
 
-pub fits_but : (b : Build) (n : ℕ) (y : Progress) (ts : List Held) (ls : List Lost) (m m' : ℕ) {hands notes rows : ℕ} → ((k : ℕ) → (k ≡ m' → ⊥) → (k ≡ n → ⊥) → k ≡ m → ⊥) → FitsBut m b hands notes rows → n < b.plan.nodes → ((n ≡ m' → ⊥) → is_make b.plan n ≡ false → unended y.state ≡ 1 → y.done < b.plan.steps n) → length ts + unstarted y.state ≤ length b.tokens + unstarted (at b n).state → length ls + 200 * unended y.state ≤ length b.losses + 200 * unended (at b n).state → FitsBut m' (altered b n y ts ls) hands notes rows
-fits_but b n y ts ls m m' but fits inside changed held lost =
+-- what is noted afterwards, in the same memory
+pub record Noted_in (notes notes' : Room) (more : ℕ) : Type 0 where
+  pub jobs : notes'.jobs ≡ notes.jobs
+  pub most : notes'.most ≡ notes.most
+  pub used : notes'.used ≤ notes.used + more
+
+pub noted_none : (notes : Room) → Noted_in notes notes 0
+noted_none notes = record { jobs = refl; most = refl; used = omega arith }
+
+pub fits_but : (b : Build) (n : ℕ) (y : Progress) (ts : List Held) (ls : List Loss) (m m' : ℕ) {hands : ℕ} {notes notes' : Room} {rows : ℕ} (more : ℕ) → ((k : ℕ) → (k ≡ m' → ⊥) → (k ≡ n → ⊥) → k ≡ m → ⊥) → FitsBut m b hands notes rows → n < b.plan.nodes → ((n ≡ m' → ⊥) → is_make b.plan n ≡ false → unended y.state ≡ 1 → y.done < b.plan.steps n) → length ts + unstarted y.state ≤ length b.tokens + unstarted (at b n).state → length ls + unended y.state ≤ length b.losses + unended (at b n).state → more + 200 * unended y.state ≤ 200 * unended (at b n).state → Noted_in notes notes' more → FitsBut m' (altered b n y ts ls) hands notes' rows
+fits_but b n y ts ls m m' more but fits inside changed held listed lost noted =
     let place : n < length b.nodes = omega (arith, fits.whole) in
     let starts = sum_set (λ _ x. unstarted x.state) y unbegun b.nodes n place in
     let ends = sum_set (λ _ x. unended x.state) y unbegun b.nodes n place in
@@ -63,16 +71,18 @@ fits_but b n y ts ls m m' but fits inside changed held lost =
       steps = steps_set b n y place m m' but fits.steps changed;
       few = omega (arith, fits.few);
       room = fits.room;
-      spare = fits.spare;
+      ample = omega (arith, fits.ample, noted.jobs);
+      spare = omega (arith, fits.spare, noted.most);
       wide = fits.wide;
-      noted = omega (arith, fits.noted);
+      listed = omega (arith, fits.listed, noted.jobs);
+      noted = omega (arith, fits.noted, noted.used, noted.most);
     }
 
 -- the same of every job, where the changed node does or leaves no less
-pub fits_set : (b : Build) (n : ℕ) (y : Progress) (ts : List Held) (ls : List Lost) {hands notes rows : ℕ} → Fits b hands notes rows → n < b.plan.nodes → unended y.state ≤ unended (at b n).state → y.done ≡ (at b n).done → length ts + unstarted y.state ≤ length b.tokens + unstarted (at b n).state → length ls + 200 * unended y.state ≤ length b.losses + 200 * unended (at b n).state → Fits (altered b n y ts ls) hands notes rows
-fits_set b n y ts ls fits inside falls done held lost =
-    fits_but b n y ts ls b.plan.nodes b.plan.nodes (λ k other apart. other) fits inside
-    (λ other job u. omega (arith, fits.steps n other inside job (still (at b n).state (omega arith)))) held lost
+pub fits_set : (b : Build) (n : ℕ) (y : Progress) (ts : List Held) {hands : ℕ} {notes : Room} {rows : ℕ} → Fits b hands notes rows → n < b.plan.nodes → unended y.state ≤ unended (at b n).state → y.done ≡ (at b n).done → length ts + unstarted y.state ≤ length b.tokens + unstarted (at b n).state → Fits (altered b n y ts b.losses) hands notes rows
+fits_set b n y ts {hands} {notes} {rows} fits inside falls done held =
+    fits_but b n y ts b.losses b.plan.nodes b.plan.nodes 0 (λ k other apart. other) fits inside
+    (λ other job u. omega (arith, fits.steps n other inside job (still (at b n).state (omega arith)))) held (omega arith) (omega arith) (noted_none notes)
   where
     still : (s : State) → 0 < unended s → unended s ≡ 1
     still Waiting h = refl
@@ -81,12 +91,12 @@ fits_set b n y ts ls fits inside falls done held lost =
     still (Failed c) h = absurd (omega arith)
 
 -- of every job, and so of every other
-pub fits_other : (m : ℕ) {b : Build} {hands notes rows : ℕ} → Fits b hands notes rows → FitsBut m b hands notes rows
-fits_other m {b} fits = record { whole = fits.whole; small = fits.small; steps = λ k other within. fits.steps k (λ e. omega arith) within; few = fits.few; room = fits.room; spare = fits.spare; wide = fits.wide; noted = fits.noted }
+pub fits_other : (m : ℕ) {b : Build} {hands : ℕ} {notes : Room} {rows : ℕ} → Fits b hands notes rows → FitsBut m b hands notes rows
+fits_other m {b} fits = record { whole = fits.whole; small = fits.small; steps = λ k other within. fits.steps k (λ e. omega arith) within; few = fits.few; room = fits.room; ample = fits.ample; spare = fits.spare; wide = fits.wide; listed = fits.listed; noted = fits.noted }
 
 -- fewer tokens in hand
-pub fits_fewer : (b : Build) (ts : List Held) {hands notes rows : ℕ} → Fits b hands notes rows → length ts ≤ length b.tokens → Fits (with_tokens b ts) hands notes rows
-fits_fewer b ts fits fewer = record { whole = fits.whole; small = fits.small; steps = fits.steps; few = omega (arith, fits.few); room = fits.room; spare = fits.spare; wide = fits.wide; noted = fits.noted }
+pub fits_fewer : (b : Build) (ts : List Held) {hands : ℕ} {notes : Room} {rows : ℕ} → Fits b hands notes rows → length ts ≤ length b.tokens → Fits (with_tokens b ts) hands notes rows
+fits_fewer b ts fits fewer = record { whole = fits.whole; small = fits.small; steps = fits.steps; few = omega (arith, fits.few); room = fits.room; ample = fits.ample; spare = fits.spare; wide = fits.wide; listed = fits.listed; noted = fits.noted }
 
 -- those that pass a test are no more
 those_few : {A : Type 0} (p : A → Bool) (xs : List A) → length (those p xs) ≤ length xs
@@ -142,7 +152,7 @@ pub one_to_end : (b : Build) (n : ℕ) → n < length b.nodes → (at b n).state
 one_to_end b n inside is = omega (arith, sum_point (λ _ x. unended x.state) unbegun b.nodes n inside, ap unended is)
 
 -- once the node has a step left, it holds of every job
-pub fits_all : (n : ℕ) (b : Build) {hands notes rows : ℕ} → FitsBut n b hands notes rows → (at b n).done < b.plan.steps n → Fits b hands notes rows
+pub fits_all : (n : ℕ) (b : Build) {hands : ℕ} {notes : Room} {rows : ℕ} → FitsBut n b hands notes rows → (at b n).done < b.plan.steps n → Fits b hands notes rows
 fits_all n b fits less = record {
   whole = fits.whole;
   small = fits.small;
@@ -150,7 +160,9 @@ fits_all n b fits less = record {
       ⊎_elim (λ same. subst (λ j. (at b j).done < b.plan.steps j) (sym same) less) (λ apart. fits.steps k apart within job u) (cases_eq k n);
   few = fits.few;
   room = fits.room;
+  ample = fits.ample;
   spare = fits.spare;
   wide = fits.wide;
+  listed = fits.listed;
   noted = fits.noted;
 }

@@ -2,7 +2,7 @@
 use Rattle.std.proofs.Common.{◌≡◌, ℕ, zero, suc, ◌+◌, ◌-◌, ◌*◌, ◌<◌, ◌≤◌, Bool, true, false, cond, ◌&&◌, eqb, ltb, leb, List, [], ◌∷◌, ◌++◌, length, get_or, take, replicate, Some, None, Option, sym, refl, ap, ◌∙◌, subst, arith}
 use lib.ListN.{length-replicate}
 use Rattle.std.proofs.lemmas.List.{take_all}
-use Rattle.pool.specs.Meaning.{sum_below, total as all-bytes}
+use Rattle.pool.specs.Meaning.{sum_below, total as all_bytes}
 use Rattle.rules.specs.Builds.{Build, unbegun, at, begun_on}
 use Rattle.rules.specs.Plans.{Plan, plan_of, is_make, needed}
 use Rattle.rules.specs.Refusing.{open_refusal}
@@ -15,6 +15,7 @@ use Rattle.tree.specs.Questions.{nodes_of, count_of}
 use Rattle.tree.specs.declared.node.Node.{Node}
 use Rattle.tree.specs.declared.tree.Tree.{Tree}
 use Rattle.build.specs.Fits.{Fits}
+use Rattle.build.specs.Lost.{Room}
 use Rattle.build.specs.Rooms.{sum_from, unstarted, unended, to_start, to_end, bytes_left, node_room, room}
 
 fresh_at : (k n : ℕ) → get_or (replicate k unbegun) n unbegun ≡ unbegun
@@ -46,8 +47,8 @@ job_steps x fit job =
     omega (arith, leb-true 1 x.steps parts.0)
 
 module _ (t : Tree) (keep : Bool) where
-  pub fresh_fits : (hands notes rows : ℕ) → 200 ≤ hands → 40000 ≤ notes → 200 ≤ rows → Fits (begun_on (plan_of (nodes_of t)) keep) hands notes rows
-  fresh_fits hands notes rows enough spare wide =
+  pub fresh_fits : (hands : ℕ) (notes : Room) (rows : ℕ) → 200 ≤ hands → 200 ≤ notes.jobs → 40000 ≤ notes.most → notes.used ≡ 0 → 200 ≤ rows → Fits (begun_on (plan_of (nodes_of t)) keep) hands notes rows
+  fresh_fits hands notes rows enough ample spare none wide =
       let n = count_of t in
       record {
         whole = length-replicate n unbegun;
@@ -58,8 +59,10 @@ module _ (t : Tree) (keep : Bool) where
             omega arith;
         few = omega (arith, ones (λ _ x. unstarted x.state) (λ k. refl) 0 n);
         room = enough;
+        ample = ample;
         spare = spare;
         wide = wide;
+        listed = let small = t.counted.1 in omega (arith, ones (λ _ x. unended x.state) (λ k. refl) 0 n);
         noted = let small = t.counted.1 in omega (arith, ones (λ _ x. unended x.state) (λ k. refl) 0 n);
       }
 
@@ -80,12 +83,12 @@ unfolding sum_below
 below_grows f n zero = let same : n + 0 ≡ n = omega arith in omega (arith, ap (sum_below f) same)
 below_grows f n (suc k) = let up : n + suc k ≡ suc (n + k) = omega arith in omega (arith, ap (sum_below f) up, below_grows f n k)
 
-pub below_total : (f : ℕ → ℕ) (n : ℕ) → n ≤ 256 → sum_below f n ≤ all-bytes f
-unfolding all-bytes
+pub below_total : (f : ℕ → ℕ) (n : ℕ) → n ≤ 256 → sum_below f n ≤ all_bytes f
+unfolding all_bytes
 below_total f n h = let up : n + (256 - n) ≡ 256 = omega arith in omega (arith, ap (sum_below f) up, below_grows f n (256 - n))
 
-pub all_below : (f : ℕ → ℕ) (n : ℕ) → n ≡ 256 → sum_below f n ≡ all-bytes f
-unfolding all-bytes
+pub all_below : (f : ℕ → ℕ) (n : ℕ) → n ≡ 256 → sum_below f n ≡ all_bytes f
+unfolding all_bytes
 all_below f n e = ap (sum_below f) e
 
 pub below_none : (f : ℕ → ℕ) → sum_below f 0 ≡ 0

@@ -20,7 +20,7 @@ use Rattle.rules.specs.declared.progress.Progress.{Progress}
 use Rattle.rules.specs.declared.progress.State.{State}
 use Rattle.rules.specs.declared.progress.State.TheVariants.{Failed}
 use Rattle.rules.proofs.Backs.{make_ended, stop_plan}
-use Rattle.rules.proofs.Holding.{if_holds}
+use Rattle.rules.proofs.Held.{if_holds}
 use Rattle.rules.proofs.Telling.{set_keeps}
 use Rattle.schedule.specs.declared.cause.Cause.TheVariants as causes
 use Rattle.std.proofs.lemmas.Bool.{and_parts, both_ways, cases_Bool, not-true, eqb-true, eqb-false, false≢true}

@@ -4,8 +4,7 @@ use Rattle.pool.specs.Meaning.{count, only}
 use Rattle.pool.proofs.Counts.{count_first}
 use Rattle.rules.specs.Ending.{goes_back, keep_held}
 use Rattle.rules.specs.Lists.{any, if_so, those, put_if}
-use Rattle.rules.specs.declared.tokens.Held.{Held}
-use Rattle.rules.specs.declared.tokens.Lost.{Lost}
+use Rattle.rules.specs.Builds.{Held}
 use Rattle.std.proofs.lemmas.List.{take_more, drop_more, drop_all, reverse-append, get_or_read, map_push, append_assoc, append-nil}
 use Rattle.std.proofs.lemmas.Bool.{eq-eqb, ne_eqb}
 use Rattle.std.proofs.lemmas.Bool.Decides.{nat_tests}
@@ -144,37 +143,34 @@ unfolding oldest_bytes
 own_oldest m xs =
     map_turned (λ h. h.byte) (those (λ h. eqb h.by m) (reverse xs)) ∙ ap (map (λ h. h.byte)) (turned_those (λ h. eqb h.by m) xs)
 
-abbrev pub lost_at : ℕ → List ℕ → List Lost
-lost_at job bytes = map (λ b. record { job = job; byte = b }) bytes
+-- so far these are added, with the tokens from place i on still to be looked at
+pub record Adding (m : ℕ) (xs : List Held) (old : List ℕ) (i : ℕ) (bytes : List ℕ) : Type 0 where
+  pub left : bytes ++ oldest_bytes m (drop i xs) ≡ old ++ own_bytes m (reverse xs)
 
--- so far these are noted, with the tokens from place i on still to be looked at
-pub record Noting (m job : ℕ) (xs : List Held) (old : List Lost) (i : ℕ) (ls : List Lost) : Type 0 where
-  pub left : ls ++ lost_at job (oldest_bytes m (drop i xs)) ≡ old ++ lost_at job (own_bytes m (reverse xs))
+pub adding_none : (m : ℕ) (xs : List Held) (old : List ℕ) → Adding m xs old 0 old
+adding_none m xs old = record { left = ap (λ l. old ++ l) (sym (own_oldest m xs)) }
 
-pub noting_none : (m job : ℕ) (xs : List Held) (old : List Lost) → Noting m job xs old 0 old
-noting_none m job xs old = record { left = ap (λ l. old ++ lost_at job l) (sym (own_oldest m xs)) }
-
-module _ {m job : ℕ} {xs : List Held} {old : List Lost} {i : ℕ} {ls : List Lost} (so : Noting m job xs old i ls) (x : Held) (within : i < length xs) (read : x ≡ get_or xs i x) where
+module _ {m : ℕ} {xs : List Held} {old : List ℕ} {i : ℕ} {bytes : List ℕ} (so : Adding m xs old i bytes) (x : Held) (within : i < length xs) (read : x ≡ get_or xs i x) where
   next : drop i xs ≡ x ∷ drop (i + 1) xs
   next = drop_more xs i x within ∙ ap (λ y. y ∷ drop (i + 1) xs) (sym read)
 
-  pub noting_one : x.by ≡ m → (ls' : List Lost) → ls' ≡ ls ++ record { job = job; byte = x.byte } ∷ [] → Noting m job xs old (i + 1) ls'
+  pub adding_one : x.by ≡ m → (more : List ℕ) → more ≡ bytes ++ x.byte ∷ [] → Adding m xs old (i + 1) more
   unfolding oldest_bytes
-  noting_one own ls' e =
+  adding_one own more e =
       let found : oldest_bytes m (drop i xs) ≡ x.byte ∷ oldest_bytes m (drop (i + 1) xs) = ap (oldest_bytes m) next ∙ ap (λ t. map (λ h. h.byte) (put_if t x (those (λ h. eqb h.by m) (drop (i + 1) xs)))) (eq-eqb x.by m own) in
       record {
         left =
-            ap (λ l. l ++ lost_at job (oldest_bytes m (drop (i + 1) xs))) e
-            ∙ append_assoc ls (record { job = job; byte = x.byte } ∷ []) (lost_at job (oldest_bytes m (drop (i + 1) xs)))
-            ∙ ap (λ l. ls ++ lost_at job l) (sym found) ∙ so.left;
+            ap (λ l. l ++ oldest_bytes m (drop (i + 1) xs)) e
+            ∙ append_assoc bytes (x.byte ∷ []) (oldest_bytes m (drop (i + 1) xs))
+            ∙ ap (λ l. bytes ++ l) (sym found) ∙ so.left;
       }
 
-  pub noting_on : (x.by ≡ m → ⊥) → Noting m job xs old (i + 1) ls
+  pub adding_on : (x.by ≡ m → ⊥) → Adding m xs old (i + 1) bytes
   unfolding oldest_bytes
-  noting_on other =
+  adding_on other =
       let none : oldest_bytes m (drop i xs) ≡ oldest_bytes m (drop (i + 1) xs) = ap (oldest_bytes m) next ∙ ap (λ t. map (λ h. h.byte) (put_if t x (those (λ h. eqb h.by m) (drop (i + 1) xs)))) (ne_eqb x.by m other) in
-      record { left = ap (λ l. ls ++ lost_at job l) (sym none) ∙ so.left }
+      record { left = ap (λ l. bytes ++ l) (sym none) ∙ so.left }
 
-pub noting_all : (m job : ℕ) (xs : List Held) (old : List Lost) (i : ℕ) (ls : List Lost) → Noting m job xs old i ls → length xs ≤ i → ls ≡ old ++ lost_at job (own_bytes m (reverse xs))
+pub adding_all : (m : ℕ) (xs : List Held) (old : List ℕ) (i : ℕ) (bytes : List ℕ) → Adding m xs old i bytes → length xs ≤ i → bytes ≡ old ++ own_bytes m (reverse xs)
 unfolding oldest_bytes
-noting_all m job xs old i ls so past = sym (append-nil ls) ∙ ap (λ l. ls ++ lost_at job (oldest_bytes m l)) (sym (drop_all i xs past)) ∙ so.left
+adding_all m xs old i bytes so past = sym (append-nil bytes) ∙ ap (λ l. bytes ++ oldest_bytes m l) (sym (drop_all i xs past)) ∙ so.left

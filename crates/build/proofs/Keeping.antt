@@ -22,49 +22,40 @@ good_is (Failed c) e = absurd (false≢true e)
 
 -- all of it
 abbrev pub Kept : Work → Type 0
-Kept e = Housed e × (Numbered e × (Lives e × (Paid e × (Works e × (AllGood e × (Blamed e × (Goes_on e × (AllDone e × (Idles e × (Untouched e × (Unstopped e × (StoppedWhy e × (Roomy e × Unit {0})))))))))))))
+Kept e = record {
+  housed : Housed e;
+  numbered : Numbered e;
+  lives : Lives e;
+  paid : Paid e;
+  works : Works e;
+  good : AllGood e;
+  blamed : Blamed e;
+  going : Goes_on e;
+  done : AllDone e;
+  idles : Idles e;
+  untouched : Untouched e;
+  unstopped : Unstopped e;
+  why : StoppedWhy e;
+  roomy : Roomy e;
+}
 
 pub kept_by : (e : Work) → Fit e → Sound (status e) → Kept e
-kept_by e f s = (
-  (f.room, f.spare, f.wide),
-  (
-    (f.whole, f.few, f.noted),
-    (
-      s.shape.lives,
-      (
-        s.shape.paid,
-        (
-          s.busy,
-          (
-            (λ n b g. ap is_good (s.shape.good n b (good_is _ g))),
-            (
-              s.shape.failed,
-              (
-                (λ n w job r. s.shape.going n w job (λ e. omega arith) r),
-                (
-                  (λ n h. s.shape.full n h.0 h.1 (good_is _ h.2)),
-                  (
-                    s.shape.fresh,
-                    (
-                      s.shape.untouched,
-                      (
-                        s.shape.unstopped refl,
-                        (
-                          s.shape.marked refl,
-                          (s.room, tt),
-                        ),
-                      ),
-                    ),
-                  ),
-                ),
-              ),
-            ),
-          ),
-        ),
-      ),
-    ),
-  ),
-)
+kept_by e f s = record {
+  housed = (f.room, f.ample, f.spare, f.wide);
+  numbered = (f.whole, f.few, f.listed, f.noted);
+  lives = s.shape.lives;
+  paid = s.shape.paid;
+  works = s.busy;
+  good = λ n b g. ap is_good (s.shape.good n b (good_is _ g));
+  blamed = s.shape.failed;
+  going = λ n w job r. s.shape.going n w job (λ e. omega arith) r;
+  done = λ n h. s.shape.full n h.0 h.1 (good_is _ h.2);
+  idles = s.shape.fresh;
+  untouched = s.shape.untouched;
+  unstopped = s.shape.unstopped refl;
+  why = s.shape.marked refl;
+  roomy = s.room;
+}
 
 pub sound_by : (b : BuildOf) → Sound (status b.work)
 sound_by b = record {
@@ -104,7 +95,9 @@ fit_by b = record {
   steps = λ n other within job u. unended_left b.work (sound_by b) n within job _ refl u;
   few = b.numbered.1;
   room = b.housed.0;
-  spare = b.housed.1;
-  wide = b.housed.2;
-  noted = b.numbered.2;
+  ample = b.housed.1;
+  spare = b.housed.2;
+  wide = b.housed.3;
+  listed = b.numbered.2;
+  noted = b.numbered.3;
 }

@@ -1,4 +1,5 @@
 pub mod Handing
+pub mod Shown
 pub mod Leading
 pub mod Seeking
 pub mod Sums

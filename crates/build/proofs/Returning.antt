@@ -7,7 +7,7 @@ use Rattle.pool.specs.Ways.{Ways}
 use Rattle.rules.specs.Builds.{Build, with_tokens}
 use Rattle.rules.specs.Ending.{goes_back, keep_held, put_found, put_one}
 use Rattle.rules.specs.Lists.{if_so}
-use Rattle.rules.specs.declared.tokens.Held.{Held}
+use Rattle.rules.specs.Builds.{Held}
 use Rattle.schedule.specs.Buffers.{Wrote}
 use Rattle.schedule.specs.Records.{bytes}
 use Rattle.schedule.specs.declared.record.Record.TheVariants.{PutBack}

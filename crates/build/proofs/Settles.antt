@@ -10,8 +10,8 @@ use Rattle.rules.specs.Settling.{Run, next_in_slot, next_with_token, try_slot, t
 use Rattle.rules.specs.Words.{Startable, Make}
 use Rattle.rules.specs.declared.progress.State.{State}
 use Rattle.rules.specs.declared.progress.State.TheVariants.{Waiting, Running, Good, Failed}
-use Rattle.rules.specs.declared.start.Start.{Start}
-use Rattle.rules.specs.declared.tokens.Held.{Held}
+use Rattle.rules.specs.Settling.{Start}
+use Rattle.rules.specs.Builds.{Held}
 use Rattle.rules.proofs.Searches.{served}
 use Rattle.rules.proofs.Starts.{child_inside}
 use Rattle.schedule.specs.Buffers.{Wrote}

@@ -14,7 +14,7 @@ use Rattle.rules.specs.declared.progress.End.{End}
 use Rattle.rules.specs.declared.progress.End.TheVariants as ends
 use Rattle.rules.specs.declared.progress.State.{State}
 use Rattle.rules.specs.declared.progress.State.TheVariants.{Waiting, Running, Good, Failed}
-use Rattle.rules.specs.declared.tokens.Held.{Held}
+use Rattle.rules.specs.Builds.{Held}
 use Rattle.schedule.specs.Buffers.{Wrote}
 use Rattle.schedule.specs.Records.{bytes, encoded}
 use Rattle.schedule.specs.declared.record.Record.{Record}

@@ -7,7 +7,7 @@ use Rattle.build.specs.Rooms.{room}
 use Rattle.build.specs.declared.work.Work.{Work}
 use Rattle.rules.specs.Builds.{Build, at}
 use Rattle.rules.specs.declared.progress.State.TheVariants.{Waiting}
-use Rattle.rules.specs.declared.start.Start.{Start}
+use Rattle.rules.specs.Settling.{Start}
 use Rattle.schedule.specs.Buffers.{Wrote}
 use Rattle.schedule.specs.Records.{bytes}
 use Rattle.schedule.specs.declared.record.Record.{Record}

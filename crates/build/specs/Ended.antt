@@ -1,20 +1,18 @@
 -- A node that ends, its record, and its make.
 use Rattle.std.specs.Prelude.{ℕ, List, slice_set}
 use Rattle.build.specs.Hands.{own_bytes}
-use Rattle.rules.specs.Builds.{Build, at, with_node, with_state}
+use Rattle.rules.specs.Builds.{Build, Held, Loss, at, with_node, with_state}
 use Rattle.rules.specs.Ending.{marked, noted_loss}
 use Rattle.rules.specs.Events.{state_of}
 use Rattle.rules.specs.Plans.{Plan, is_make}
 use Rattle.rules.specs.declared.progress.End.{End}
 use Rattle.rules.specs.declared.progress.End.TheVariants.{Well, Failed}
-use Rattle.rules.specs.declared.tokens.Held.{Held}
-use Rattle.rules.specs.declared.tokens.Lost.{Lost}
 use Rattle.schedule.specs.Causes.{cause_number}
 use Rattle.schedule.specs.declared.record.Record.{Record}
 use Rattle.schedule.specs.declared.record.Record.TheVariants.{EndedWell, EndedFailed}
 
 -- what is noted when node n ends so: for a job that fails the tokens of its make
-abbrev pub noted_at : End → ℕ → Plan → List Held → List Lost → List Lost
+abbrev pub noted_at : End → ℕ → Plan → List Held → List Loss → List Loss
 noted_at Well n t hs ls = ls
 noted_at (Failed c) n t hs ls = noted_loss (is_make t n) n (own_bytes (t.make n) hs) ls
 

@@ -1,13 +1,13 @@
 -- What a build at work keeps between its steps.
 use Rattle.std.specs.Prelude.{◌≡◌, ℕ, ◌+◌, ◌*◌, ◌<◌, ◌≤◌, false, List, length, vec_capacity, ◌≢◌}
 use Rattle.build.specs.Hands.{in_hands}
+use Rattle.build.specs.Lost.{Room, memory}
 use Rattle.build.specs.Models.{model}
 use Rattle.build.specs.Rooms.{unended, to_start, to_end}
 use Rattle.build.specs.declared.work.Work.{Work}
 use Rattle.pool.specs.Ways.{Ways}
-use Rattle.rules.specs.Builds.{Build, at}
+use Rattle.rules.specs.Builds.{Build, Held, at}
 use Rattle.rules.specs.Plans.{is_make}
-use Rattle.rules.specs.declared.tokens.Held.{Held}
 
 -- a job that has not ended has a step left, unless it is node m
 abbrev pub StepsLeft : ℕ → Build → Type 0
@@ -16,28 +16,30 @@ StepsLeft m b =
     (at b n).done < b.plan.steps n
 
 -- Every node has its place, and every job but m that has not ended a step left. There is memory for so many tokens in
--- hand, for so many that are noted and for so many nodes: enough for every tree, and for all that may still be noted.
-pub record FitsBut (m : ℕ) (b : Build) (hands notes rows : ℕ) : Type 0 where
+-- hand, for what is noted and for so many nodes: enough for every tree, and for all that may still be noted.
+pub record FitsBut (m : ℕ) (b : Build) (hands : ℕ) (notes : Room) (rows : ℕ) : Type 0 where
   pub whole : length b.nodes ≡ b.plan.nodes
   pub small : b.plan.nodes ≤ 200
   pub steps : StepsLeft m b
   pub few : length b.tokens + to_start b.nodes ≤ b.plan.nodes
   pub room : 200 ≤ hands
-  pub spare : 40000 ≤ notes
+  pub ample : 200 ≤ notes.jobs
+  pub spare : 40000 ≤ notes.most
   pub wide : 200 ≤ rows
-  pub noted : length b.losses + 200 * to_end b.nodes ≤ notes
+  pub listed : length b.losses + to_end b.nodes ≤ notes.jobs
+  pub noted : notes.used + 200 * to_end b.nodes ≤ notes.most
 
 -- so it is of every job
-abbrev pub Fits : Build → ℕ → ℕ → ℕ → Type 0
+abbrev pub Fits : Build → ℕ → Room → ℕ → Type 0
 Fits b hands notes rows = FitsBut b.plan.nodes b hands notes rows
 
 -- so it is of a build at work
 abbrev pub Fit : Work → Type 0
-Fit e = Fits (model e) (vec_capacity e.tokens.held) (vec_capacity e.losses) (vec_capacity e.nodes)
+Fit e = Fits (model e) (vec_capacity e.tokens.held) (memory e.losses) (vec_capacity e.nodes)
 
 -- so it is of a build at work but for node m, which is about to end
 abbrev pub FitBut : ℕ → Work → Type 0
-FitBut m e = FitsBut m (model e) (vec_capacity e.tokens.held) (vec_capacity e.losses) (vec_capacity e.nodes)
+FitBut m e = FitsBut m (model e) (vec_capacity e.tokens.held) (memory e.losses) (vec_capacity e.nodes)
 
 -- of each byte at least as many are out of the pool as the makes hold
 abbrev pub Backed : {P : Type 0} → Ways P → P → List Held → Type 0

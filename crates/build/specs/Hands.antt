@@ -3,7 +3,7 @@ use Rattle.std.specs.Prelude.{◌≡◌, ℕ, ◌+◌, ◌<◌, Bool, List, ◌+
 use Rattle.pool.specs.Meaning.{count}
 use Rattle.rules.specs.Ending.{goes_back}
 use Rattle.rules.specs.Lists.{those}
-use Rattle.rules.specs.declared.tokens.Held.{Held}
+use Rattle.rules.specs.Builds.{Held}
 
 -- how many tokens of this byte are in hand
 abbrev pub in_hands : ℕ → List Held → ℕ

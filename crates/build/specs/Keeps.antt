@@ -1,5 +1,5 @@
 -- What every build keeps between two calls, fact by fact: it fits its memory, and it is sound.
-use Rattle.std.specs.Prelude.{◌≡◌, ℕ, ◌+◌, ◌-◌, ◌*◌, ◌<◌, ◌≤◌, Bool, true, false, length, vec_capacity}
+use Rattle.std.specs.Prelude.{◌≡◌, ℕ, ◌+◌, ◌-◌, ◌*◌, ◌<◌, ◌≤◌, Bool, true, false, length, vec_len, vec_capacity}
 use Rattle.build.specs.Models.{model, status}
 use Rattle.build.specs.Rooms.{to_start, to_end}
 use Rattle.build.specs.declared.work.Work.{Work}
@@ -12,14 +12,16 @@ use Rattle.rules.specs.declared.progress.State.TheVariants.{Waiting, Running, Go
 
 -- there is memory for the tokens in hand, those noted and the nodes of every tree
 abbrev pub Housed : Work → Type 0
-Housed e = (200 ≤ vec_capacity e.tokens.held) × (40000 ≤ vec_capacity e.losses) × (200 ≤ vec_capacity e.nodes)
+Housed e =
+    (200 ≤ vec_capacity e.tokens.held) × (200 ≤ vec_capacity e.losses.jobs) × (40000 ≤ vec_capacity e.losses.bytes) × (200 ≤ vec_capacity e.nodes)
 
 -- every node has its place; of tokens in hand and tokens noted there are only so many
 abbrev pub Numbered : Work → Type 0
 Numbered e =
     (length (model e).nodes ≡ (model e).plan.nodes)
     × (length (model e).tokens + to_start (model e).nodes ≤ (model e).plan.nodes)
-    × (length (model e).losses + 200 * to_end (model e).nodes ≤ vec_capacity e.losses)
+    × (length (model e).losses + to_end (model e).nodes ≤ vec_capacity e.losses.jobs)
+    × (vec_len e.losses.bytes + 200 * to_end (model e).nodes ≤ vec_capacity e.losses.bytes)
 
 -- the make of a running node is live
 abbrev pub Lives : Work → Type 0

@@ -1,3 +1,4 @@
+pub mod Lost
 pub mod Models
 pub mod Turns
 pub mod Hands

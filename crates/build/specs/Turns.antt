@@ -5,7 +5,7 @@ use Rattle.rules.specs.Lists.{when}
 use Rattle.rules.specs.Plans.{is_make}
 use Rattle.rules.specs.Settling.{starts}
 use Rattle.rules.specs.Startable.{startable}
-use Rattle.rules.specs.declared.start.Start.{Start}
+use Rattle.rules.specs.Settling.{Start}
 
 -- whether node k is a running child of make m
 abbrev pub runs_under : Build → ℕ → ℕ → Bool

@@ -1,7 +1,7 @@
 // The calls of a build. Each is handed the pool and the schedule buffer.
 ghost use Rattle.std.specs.Prelude.{◌≡◌, IfOk, OnErr, OnOk};
 ghost use Rattle.build.specs.Places.{place, build_of};
-ghost use Rattle.law.specs.Always.{unopened as never-opened};
+ghost use Rattle.law.specs.Always.{unopened as never_opened};
 ghost use Rattle.law.specs.Calls.{Called, Opened};
 ghost use Rattle.law.specs.Calls as requests;
 ghost use Rattle.law.specs.Law.{LawFrom, ReadsBackFrom};
@@ -19,7 +19,7 @@ use tree::Tree;
 impl Build {
     // A finished build over a fresh tree, every node waiting and nothing written, with memory for every tree.
     pub fn new(heap: Global) -> Result<Build, AllocError>
-        ensures result { IfOk result (λ b. place b ≡ never-opened (plan_of fresh)) }
+        ensures result { IfOk result (λ b. place b ≡ never_opened (plan_of fresh)) }
     {
         let work = unopened(heap)?;
         Ok(Build { work })

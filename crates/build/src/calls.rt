@@ -4,7 +4,7 @@ ghost use Rattle.build.specs.Changes.{reach};
 ghost use Rattle.build.specs.Fits.{Fit};
 ghost use Rattle.build.specs.Models.{model, status};
 ghost use Rattle.build.specs.Turning.{Still};
-ghost use Rattle.law.specs.Calls.{Called, step as step_of_lem, kill as kill-of, poll as only-poll};
+ghost use Rattle.law.specs.Calls.{Called, step as step_of_lem, kill as kill_of, poll as only_poll};
 ghost use Rattle.rules.specs.Plans.{needed};
 
 use crate::work::Work;
@@ -42,7 +42,7 @@ impl Work {
     ) -> Result<u32, Refusal>
         requires fit { Fit self.old }
         requires within { reach self.old ≤ needed (model self.old).plan }
-        ensures after { Called P.Lender.ways (kill-of n) (status self.old) pool.old buffer.old result (status self.new) pool.new buffer.new }
+        ensures after { Called P.Lender.ways (kill_of n) (status self.old) pool.old buffer.old result (status self.new) pool.new buffer.new }
         ensures unaltered { OnErr result (self.new ≡ self.old) }
         ensures still { Still self.old (reach self.old) self.new }
     {
@@ -62,7 +62,7 @@ impl Work {
     ) -> Result<u32, Refusal>
         requires fit { Fit self.old }
         requires within { reach self.old ≤ needed (model self.old).plan }
-        ensures after { Called P.Lender.ways only-poll (status self.old) pool.old buffer.old result (status self.new) pool.new buffer.new }
+        ensures after { Called P.Lender.ways only_poll (status self.old) pool.old buffer.old result (status self.new) pool.new buffer.new }
         ensures unaltered { OnErr result (self.new ≡ self.old) }
         ensures still { Still self.old (reach self.old) self.new }
     {

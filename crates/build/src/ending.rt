@@ -4,6 +4,7 @@ ghost use Rattle.build.specs.Changes.{Changed, Noted, Remade, here, reach};
 ghost use Rattle.build.specs.Ended.{ended_build, ended_record, marked_build, noted_at};
 ghost use Rattle.build.specs.Fits.{Fit, FitBut, Backed};
 ghost use Rattle.build.specs.Leads.{Leads};
+ghost use Rattle.build.specs.Lost.{noted_losses, Grown};
 ghost use Rattle.build.specs.Models.{model, in_hand};
 ghost use Rattle.build.specs.Turning.{Kept};
 ghost use Rattle.law.specs.Answers.{answering};
@@ -17,10 +18,11 @@ ghost use Rattle.schedule.specs.declared.record.Record.TheVariants.{Finished};
 ghost use Rattle.tree.specs.Questions.{nodes_of};
 
 use crate::asking::{is_make, make_of};
+use crate::losses::Losses;
 use crate::tokens::Tokens;
 use crate::work::Work;
 use pool::Lender;
-use rules::{End, Event, Lost};
+use rules::{End, Event};
 use schedule::cause::Cause;
 use schedule::record::Record;
 use tree::Tree;
@@ -40,13 +42,14 @@ fn end_record(n: u32, how: End) -> Record
 }
 
 // Notes, when node n ends so, the tokens of its make: for a job that fails.
-fn note_loss(tree: &Tree, tokens: &Tokens, n: u32, how: End, losses: &mut Vec<Lost>)
-    requires room { vec_len losses.old + vec_len tokens.now.held ≤ vec_capacity losses.old }
-    ensures after { losses.new.items ≡ noted_at how n (plan_of (nodes_of tree.now)) (in_hand tokens.now) losses.old.items }
-    ensures capacity { vec_capacity losses.new ≡ vec_capacity losses.old }
+fn note_loss(tree: &Tree, tokens: &Tokens, n: u32, how: End, losses: &mut Losses)
+    requires listed { vec_len losses.old.jobs < vec_capacity losses.old.jobs }
+    requires room { vec_len losses.old.bytes + vec_len tokens.now.held ≤ vec_capacity losses.old.bytes }
+    ensures after { noted_losses losses.new ≡ noted_at how n (plan_of (nodes_of tree.now)) (in_hand tokens.now) (noted_losses losses.old) }
+    ensures memory { Grown losses.old (vec_len tokens.now.held) losses.new }
 {
     if matches!(how, End::Failed(_)) && !is_make(tree, n) {
-        tokens.note(make_of(tree, n), n, losses);
+        losses.note(tokens, make_of(tree, n), n);
     }
 }
 

@@ -1,8 +1,8 @@
 // Why a node failed: the fault of a job, and of a failed make that of its child that failed first.
-ghost use Rattle.std.specs.Prelude.{◌≡◌, IfOk};
+ghost use Rattle.std.specs.Prelude.{◌≡◌};
 ghost use Rattle.build.specs.Filling.{shown_fault, no_fault, fault_from, Filled};
 ghost use Rattle.build.specs.Models.{model};
-ghost use Rattle.rules.specs.Faults.{fault_by, tokens_at};
+ghost use Rattle.rules.specs.Faults.{fault_by};
 ghost use Rattle.rules.specs.Plans.{plan_of};
 ghost use Rattle.std.specs.Option.{option_map};
 ghost use Rattle.tree.specs.Questions.{nodes_of};
@@ -11,7 +11,7 @@ use crate::asking::is_make;
 use crate::work::Work;
 use rules::State;
 use schedule::cause::Cause;
-use std::alloc::{AllocError, Global};
+use std::alloc::Global;
 use tree::{Tree, Unanswered};
 
 // Why a job failed, which job, its level, the steps that it had done, and the tokens that its make held just before,
@@ -78,20 +78,6 @@ impl Work {
         None
     }
 
-    // The tokens that were noted for the job, oldest first.
-    fn tokens_at(&self, heap: Global, n: u32) -> Result<Vec<u8>, AllocError>
-        ensures result { IfOk result (λ v. v.items ≡ tokens_at n self.now.losses.items) }
-    {
-        let mut found = Vec::new(heap);
-        for i in 0..self.losses.len() {
-            let token = self.losses[i];
-            if token.job == n {
-                found.push(token.byte)?;
-            }
-        }
-        Ok(found)
-    }
-
     // The fault of node n goes into the place. Answers whether there is one: else, and where it is refused, the place stays
     // as it was.
     pub(crate) fn fault(&self, heap: Global, n: u32, place: &mut Fault) -> Result<bool, Unanswered>
@@ -103,7 +89,7 @@ impl Work {
         let Some(failure) = self.failure(n) else {
             return Ok(false);
         };
-        let Ok(tokens) = self.tokens_at(heap, failure.job) else {
+        let Ok(tokens) = self.losses.tokens_at(heap, failure.job) else {
             return Err(Unanswered::NoMemory);
         };
         *place = Fault {

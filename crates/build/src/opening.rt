@@ -13,6 +13,7 @@ ghost use Rattle.rules.specs.declared.progress.State.TheVariants.{Waiting, Runni
 ghost use Rattle.schedule.specs.declared.record.Record.TheVariants.{Open};
 ghost use Rattle.tree.specs.Questions.{nodes_of, fresh};
 
+use crate::losses::Losses;
 use crate::refusals::open_refusal;
 use crate::searches::UNBEGUN;
 use crate::tokens::Tokens;
@@ -53,8 +54,10 @@ pub(crate) fn unopened(heap: Global) -> Result<Work, AllocError>
     let mut nodes = Vec::with_capacity(heap, MOST_NODES)?;
     nodes.resize(count, UNBEGUN)?;
     let held = Vec::with_capacity(heap, MOST_NODES)?;
-    let losses = Vec::with_capacity(heap, MOST_NODES * MOST_NODES)?;
+    let jobs = Vec::with_capacity(heap, MOST_NODES)?;
+    let bytes = Vec::with_capacity(heap, MOST_NODES * MOST_NODES)?;
     let tokens = Tokens { held };
+    let losses = Losses { jobs, bytes };
     Ok(Work {
         tree,
         keep: false,
@@ -77,7 +80,8 @@ impl Work {
         self.nodes.clear();
         let _ = self.nodes.resize(count, UNBEGUN);
         self.tokens.held.clear();
-        self.losses.clear();
+        self.losses.jobs.clear();
+        self.losses.bytes.clear();
         self.written = 0;
     }
 

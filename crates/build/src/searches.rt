@@ -1,16 +1,18 @@
 // What the rules ask of a build at work: one search each.
 ghost use Rattle.std.specs.Prelude.{◌≡◌, true, length, if◌then◌else◌};
-ghost use Rattle.build.specs.Models.{model};
+ghost use Rattle.build.specs.Models.{model, may_start};
 ghost use Rattle.build.specs.Turns.{runs_under, waits_under, runs_as_job, start_by, slot_start_by};
 ghost use Rattle.rules.specs.Builds.{at, has_running, has_waiting, running_jobs};
 ghost use Rattle.rules.specs.Ending.{is_over};
 ghost use Rattle.rules.specs.Plans.{children};
 ghost use Rattle.rules.specs.Settling.{next_in_slot, next_with_token};
 ghost use Rattle.rules.specs.Startable.{startable, search_children};
+ghost use Rattle.std.specs.Option.{option_map};
 
 use crate::asking::{has_wait, is_make, make_of};
+use crate::start::Start;
 use crate::work::Work;
-use rules::{Progress, Start, State};
+use rules::{Progress, State};
 
 // A node that has not begun.
 pub(crate) const UNBEGUN: Progress = Progress {
@@ -137,7 +139,7 @@ impl Work {
 
     // The start that node m may make as a make.
     fn start_by(&self, m: u32) -> Option<Start>
-        ensures { result ≡ start_by (model self.now) m }
+        ensures { option_map may_start result ≡ start_by (model self.now) m }
     {
         if !is_make(&self.tree, m) {
             return None;
@@ -150,7 +152,7 @@ impl Work {
 
     // The start that it may make in its implicit slot.
     fn slot_start_by(&self, m: u32) -> Option<Start>
-        ensures { result ≡ slot_start_by (model self.now) m }
+        ensures { option_map may_start result ≡ slot_start_by (model self.now) m }
     {
         if self.has_running(m) {
             return None;
@@ -160,7 +162,7 @@ impl Work {
 
     // The start of the lowest make without a running child that may start one: in its implicit slot.
     pub(crate) fn next_in_slot(&self) -> Option<Start>
-        ensures { result ≡ next_in_slot (model self.now) }
+        ensures { option_map may_start result ≡ next_in_slot (model self.now) }
     {
         for m in 0..self.tree.count() {
             if let Some(start) = self.slot_start_by(m) {
@@ -172,7 +174,7 @@ impl Work {
 
     // The start of the make that takes the next token: the lowest that may start a child.
     pub(crate) fn next_with_token(&self) -> Option<Start>
-        ensures { result ≡ next_with_token (model self.now) }
+        ensures { option_map may_start result ≡ next_with_token (model self.now) }
     {
         for m in 0..self.tree.count() {
             if let Some(start) = self.start_by(m) {

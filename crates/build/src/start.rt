@@ -1,7 +1,7 @@
 // A start: a make and the child that it starts.
 
 #[derive(Clone, Copy)]
-pub struct Start {
-    pub make: u32,
-    pub child: u32,
+pub(crate) struct Start {
+    pub(crate) make: u32,
+    pub(crate) child: u32,
 }

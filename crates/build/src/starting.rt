@@ -3,7 +3,7 @@ ghost use Rattle.std.specs.Prelude.{◌<◌, ◌≤◌, ◌∷◌, length};
 ghost use Rattle.build.specs.Changes.{Changed, MayStart, here, reach};
 ghost use Rattle.build.specs.Fits.{Fit, Backed};
 ghost use Rattle.build.specs.Leads.{Ends};
-ghost use Rattle.build.specs.Models.{model, in_hand};
+ghost use Rattle.build.specs.Models.{model, in_hand, may_start};
 ghost use Rattle.build.specs.Turning.{Turned, Kept};
 ghost use Rattle.law.specs.Answers.{answering};
 ghost use Rattle.rules.specs.Builds.{in_state, with_tokens};
@@ -11,16 +11,18 @@ ghost use Rattle.rules.specs.Settling.{settle};
 ghost use Rattle.rules.specs.declared.progress.State.TheVariants.{Running};
 ghost use Rattle.schedule.specs.declared.record.Record.TheVariants.{StartInSlot, StartWithToken};
 
+use crate::start::Start;
+use crate::tokens::Token;
 use crate::work::Work;
 use pool::Lender;
-use rules::{Event, Held, Start};
+use rules::Event;
 use schedule::record::Record;
 
 impl Work {
     // The child runs, in the make's implicit slot.
     fn start_in_slot(&mut self, start: Start, buffer: &mut [u8])
         requires fit { Fit self.old }
-        requires start { MayStart (model self.old) start }
+        requires start { MayStart (model self.old) (may_start start) }
         requires room { reach self.old ≤ length buffer.old }
         ensures after { Changed self.old buffer.old (in_state (model self.old) start.child Running) (StartInSlot start.make start.child) 0 self.new buffer.new }
     {
@@ -37,12 +39,12 @@ impl Work {
     // The child runs, with a token that the make took.
     fn start_with_token(&mut self, start: Start, byte: u8, buffer: &mut [u8])
         requires fit { Fit self.old }
-        requires start { MayStart (model self.old) start }
+        requires start { MayStart (model self.old) (may_start start) }
         requires room { reach self.old ≤ length buffer.old }
         ensures after { Changed self.old buffer.old (with_tokens (in_state (model self.old) start.child Running) (record { by = start.make; byte = byte } ∷ (model self.old).tokens)) (StartWithToken start.make start.child byte) 0 self.new buffer.new }
     {
         self.nodes[start.child as usize].accept(Event::Start);
-        self.tokens.take_up(Held {
+        self.tokens.take_up(Token {
             by: start.make,
             byte,
         });

@@ -1,13 +1,18 @@
 // The tokens in the hands of all makes, in the order in which they were taken.
 ghost use Rattle.std.specs.Prelude.{◌≡◌, ◌+◌, ◌<◌, ◌≤◌, ◌∷◌, ◌++◌, map, vec_len, vec_capacity};
 ghost use Rattle.build.specs.Hands.{in_hands, own_bytes, LastOf, GaveBack};
-ghost use Rattle.build.specs.Models.{in_hand};
+ghost use Rattle.build.specs.Models.{held, in_hand};
 
-use rules::{Held, Lost};
+// A token in a make's hand.
+#[derive(Clone, Copy)]
+pub(crate) struct Token {
+    pub(crate) by: u32,
+    pub(crate) byte: u8,
+}
 
 #[derive(Drop)]
 pub(crate) struct Tokens {
-    pub(crate) held: Vec<Held>,
+    pub(crate) held: Vec<Token>,
 }
 
 impl Tokens {
@@ -25,9 +30,9 @@ impl Tokens {
     }
 
     // The make takes a token into its hand.
-    pub(crate) fn take_up(&mut self, token: Held)
+    pub(crate) fn take_up(&mut self, token: Token)
         requires room { vec_len self.old.held < vec_capacity self.old.held }
-        ensures after { in_hand self.new ≡ token ∷ in_hand self.old }
+        ensures after { in_hand self.new ≡ held token ∷ in_hand self.old }
         ensures len { vec_len self.new.held ≡ vec_len self.old.held + 1 }
         ensures capacity { vec_capacity self.new.held ≡ vec_capacity self.old.held }
     {
@@ -36,7 +41,7 @@ impl Tokens {
 
     // Where the token stands that the make took last, if it holds any.
     fn last_of(&self, make: u32) -> Option<usize>
-        ensures { LastOf make self.now.held.items result }
+        ensures { LastOf make (map held self.now.held.items) result }
     {
         for i in (0..self.held.len()).rev() {
             if self.held[i].by == make {
@@ -55,19 +60,17 @@ impl Tokens {
         Some(self.held.remove(last).byte)
     }
 
-    // Notes the tokens of the make, oldest first, as those that it held when the job failed.
-    pub(crate) fn note(&self, make: u32, job: u32, losses: &mut Vec<Lost>)
-        requires room { vec_len losses.old + vec_len self.now.held ≤ vec_capacity losses.old }
-        ensures after { losses.new.items ≡ losses.old.items ++ map (λ b. record { job = job; byte = b }) (own_bytes make (in_hand self.now)) }
-        ensures capacity { vec_capacity losses.new ≡ vec_capacity losses.old }
+    // Adds the bytes of the make's tokens, oldest first.
+    pub(crate) fn add_bytes(&self, make: u32, bytes: &mut Vec<u8>)
+        requires room { vec_len bytes.old + vec_len self.now.held ≤ vec_capacity bytes.old }
+        ensures after { bytes.new.items ≡ bytes.old.items ++ own_bytes make (in_hand self.now) }
+        ensures len { vec_len bytes.new ≤ vec_len bytes.old + vec_len self.now.held }
+        ensures capacity { vec_capacity bytes.new ≡ vec_capacity bytes.old }
     {
         for i in 0..self.held.len() {
             let token = self.held[i];
             if token.by == make {
-                losses.push_reserved(Lost {
-                    job,
-                    byte: token.byte,
-                });
+                bytes.push_reserved(token.byte);
             }
         }
     }

@@ -1,6 +1,7 @@
 // A build at work: its tree, how far each node is, the tokens in hand, and how much of its schedule is written.
+use crate::losses::Losses;
 use crate::tokens::Tokens;
-use rules::{Lost, Progress};
+use rules::Progress;
 use tree::Tree;
 
 #[derive(Drop)]
@@ -10,6 +11,6 @@ pub(crate) struct Work {
     pub(crate) nodes: Vec<Progress>,
     pub(crate) tokens: Tokens,
     // the tokens that its make held when a job failed
-    pub(crate) losses: Vec<Lost>,
+    pub(crate) losses: Losses,
     pub(crate) written: usize,
 }

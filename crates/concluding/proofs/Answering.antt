@@ -7,7 +7,7 @@ use Rattle.lines.specs.Words.{parts}
 use Rattle.pipe.specs.Pipes.{line, AllIn, pipe_ways}
 use Rattle.pipe.specs.declared.state.Pipe.{Pipe}
 use Rattle.pool.specs.Chain.{Did, Chain}
-use Rattle.pool.specs.Meaning.{count, sum_below, total as all-counts}
+use Rattle.pool.specs.Meaning.{count, sum_below, total as all_counts}
 use Rattle.rules.specs.Calls.{open_run}
 use Rattle.rules.specs.Cases.{script_z, planned, plan_z}
 use Rattle.rules.specs.Plans.{plan_of}
@@ -41,8 +41,8 @@ answers_known p q tokens (b ∷ c ∷ d ∷ rest) is did =
     absurd (omega (arith, ap length is, ap length did.1.1, ap length did.2.1.1, ap length did.2.2.1.1))
 
 -- two tokens are in
-two_in : ◌≡◌ {A = ℕ} (all-counts (λ k. count k (120 ∷ 121 ∷ []))) 2
-unfolding count sum_below all-counts
+two_in : ◌≡◌ {A = ℕ} (all_counts (λ k. count k (120 ∷ 121 ∷ []))) 2
+unfolding count sum_below all_counts
 two_in = refl
 
 -- what is then written
@@ -62,8 +62,8 @@ stand_first old new to wrote = (wrote.end, λ i. take (wrote.end i) (wrote.after
 opened_z : (before after : Status) (p q : Pipe) (old new : List ℕ) (n : ℕ) → line p ≡ 120 ∷ 121 ∷ [] → Opened pipe_ways plan_z false before p old (Ok n) after q new → OpenedXy n after q new
 opened_z before after p q old new n is opened =
     let ran = opened.1 in
-    let tokens : ℕ = all-counts (λ k. count k (line p)) in
-    let two : tokens ≡ 2 = ap (λ (l : List ℕ). all-counts (λ k. count k l)) is ∙ two_in in
+    let tokens : ℕ = all_counts (λ k. count k (line p)) in
+    let two : tokens ≡ 2 = ap (λ (l : List ℕ). all_counts (λ k. count k l)) is ∙ two_in in
     let known = answers_known p q tokens ran.answers is ran.pool in
     let given = known.0 in
     let bytes : encoded (reverse (run_z tokens ran.answers).records) ≡ encoded records_xy = (λ i. encoded (reverse (run_z (two i) (given i)).records)) ∙ written_xy in

@@ -1,7 +1,7 @@
 // The word layer: where words end, which bytes they may have, names and steps.
 ghost use Rattle.std.specs.Prelude.{◌≡◌, ◌≤◌, length};
 ghost use Rattle.std.specs.Str.{bytes_eq};
-ghost use Rattle.lines.specs.Words.{before as Before-of, indent as indent-of, line_byte};
+ghost use Rattle.lines.specs.Words.{before as before_of, indent as indent_of, line_byte};
 ghost use Rattle.lines.specs.Faults.{BytesTold, NameTold, StepsTold};
 
 use crate::faults::WordFault;
@@ -10,7 +10,7 @@ use decimal::read_count;
 
 // The number of bytes before the first `stop`, or of all bytes where there is none.
 pub fn before(bytes: &[u8], stop: u8) -> usize
-    ensures result { result ≡ Before-of stop bytes.now }
+    ensures result { result ≡ before_of stop bytes.now }
     ensures within { result ≤ length bytes.now }
 {
     for (i, b) in bytes.iter().enumerate() {
@@ -23,7 +23,7 @@ pub fn before(bytes: &[u8], stop: u8) -> usize
 
 // The number of spaces at the front.
 pub(crate) fn indent(bytes: &[u8]) -> usize
-    ensures result { result ≡ indent-of bytes.now }
+    ensures result { result ≡ indent_of bytes.now }
     ensures within { result ≤ length bytes.now }
 {
     for (i, b) in bytes.iter().enumerate() {

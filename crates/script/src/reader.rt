@@ -1,8 +1,8 @@
 // The reader: a text, and the place of the line that comes next.
 ghost use Rattle.std.specs.Prelude.{◌≡◌, ◌+◌, ◌<◌, ◌≤◌, ◌∷◌, length};
 ghost use Rattle.tree.specs.Grown.{growth};
-ghost use Rattle.tree.specs.Growth.{finish as at-finish};
-ghost use Rattle.script.specs.Reading.{grow as grow-line};
+ghost use Rattle.tree.specs.Growth.{finish as at_finish};
+ghost use Rattle.script.specs.Reading.{grow as grow_line};
 ghost use Rattle.script.specs.Steps.{Within, in_body, Next, Looked, Stopped, Grown, BodyRead, Closed, Whole, AtEnd};
 
 use crate::faults::ScriptFault;
@@ -48,7 +48,7 @@ fn of_body(form: Option<Form>) -> Option<Form>
 
 // What a form does to the tree, or the fault of the line at the place.
 fn grow(tree: &mut Growing, form: Form, place: Place) -> Result<(), ScriptFault>
-    ensures after { Grown (grow-line form (growth tree.old)) place result (growth tree.new) }
+    ensures after { Grown (grow_line form (growth tree.old)) place result (growth tree.new) }
 {
     let grown = match form {
         Form::Job(steps) => tree.job(false, steps),
@@ -133,7 +133,7 @@ impl Reader<'_> {
 
 // The end of the text, at this place.
 fn finish(tree: Growing, place: Place) -> Result<Tree, ScriptFault>
-    ensures result { AtEnd (at-finish (growth tree)) place result }
+    ensures result { AtEnd (at_finish (growth tree)) place result }
 {
     match tree.finish() {
         Ok(whole) => Ok(whole),

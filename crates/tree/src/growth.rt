@@ -1,6 +1,6 @@
 // What one line of a script does to a tree that grows.
 ghost use Rattle.std.specs.Prelude.{◌≡◌, ◌≤◌, [], IfOk, vec_capacity};
-ghost use Rattle.tree.specs.Growth.{start, job as job-line, make as make-line, done as done-line, wait as wait-line};
+ghost use Rattle.tree.specs.Growth.{start, job as job_line, make as make_line, done as done_line, wait as wait_line};
 ghost use Rattle.tree.specs.Growth.{finish as at_end, fault_number, kind_of_job};
 ghost use Rattle.tree.specs.Grown.{growth, Grew, Finished};
 
@@ -97,7 +97,7 @@ impl Growing {
 
     // A job as the next child of the innermost open make.
     pub fn job(&mut self, fails: bool, steps: u32) -> Result<(), TreeFault>
-        ensures after { Grew (job-line fails steps (growth self.old)) result self.old self.new }
+        ensures after { Grew (job_line fails steps (growth self.old)) result self.old self.new }
     {
         if steps < 1 || steps > 999 {
             return Err(TreeFault::Steps);
@@ -124,7 +124,7 @@ impl Growing {
 
     // A nested make as the next child of the innermost open make; it is the innermost from here.
     pub fn make(&mut self) -> Result<(), TreeFault>
-        ensures after { Grew (make-line (growth self.old)) result self.old self.new }
+        ensures after { Grew (make_line (growth self.old)) result self.old self.new }
     {
         if self.outer.len() >= MAX_OUTER {
             return Err(TreeFault::Level);
@@ -149,7 +149,7 @@ impl Growing {
 
     // The innermost open make ends.
     pub fn done(&mut self) -> Result<(), TreeFault>
-        ensures after { Grew (done-line (growth self.old)) result self.old self.new }
+        ensures after { Grew (done_line (growth self.old)) result self.old self.new }
     {
         if self.outer.is_empty() {
             return Err(TreeFault::Done);
@@ -167,7 +167,7 @@ impl Growing {
 
     // A wait before the next child, if one stands before it.
     pub fn wait(&mut self)
-        ensures after { growth self.new ≡ wait-line (growth self.old) }
+        ensures after { growth self.new ≡ wait_line (growth self.old) }
     {
         self.wait = self.make as usize + 1 != self.nodes.len();
     }

@@ -5,8 +5,8 @@ use Rattle.build.proofs.opening.total_in.Goals as goal
 pub loop-byte-init : goal.loop-byte-init
 loop-byte-init g c = sym (below_none _)
 
-pub overflow-add-tokens : goal.overflow-add-tokens
-overflow-add-tokens g c =
+pub overflow_add-tokens : goal.overflow_add-tokens
+overflow_add-tokens g c =
     let ins = (g.P.Lender.ways.means c.args.pool.now).ins in
     omega (arith, below_more ins c.loop-byte.byte, below_total ins (c.loop-byte.byte + 1) (omega arith), (g.met.P.Lender.bounded c.args.pool.now).few)
 

@@ -7,7 +7,7 @@ use Rattle.law.specs.Calls.{Request, step, kill, poll, halt, Called}
 use Rattle.worked_traces.specs.Queues.{queue_ways}
 use Rattle.worked_traces.specs.Shown.{xy, limited_at}
 use Rattle.lines.specs.Words.{parts}
-use Rattle.pool.specs.Meaning.{count, sum_below, total as all-counts}
+use Rattle.pool.specs.Meaning.{count, sum_below, total as all_counts}
 use Rattle.rules.specs.declared.refusal.Refusal.TheVariants.{ShortBuffer, Finished, TokensMissing, NotRunningJob}
 use Rattle.script.specs.Reading.{read_parts}
 use Rattle.std.specs.Fmt.{digits}
@@ -22,7 +22,7 @@ acts =
     ∷ fails (step 3) Finished 105 ∷ fails (kill 3) Finished 105 ∷ fails poll Finished 105 ∷ fails halt Finished 105 ∷ []
 
 pub returns : goal.returns
-unfolding parts read_parts total digits count sum_below all-counts
+unfolding parts read_parts total digits count sum_below all_counts
 returns c = record {
   law = (
     tree_z,

@@ -8,7 +8,7 @@ use Rattle.law.specs.Calls.{step, kill, poll, halt}
 use Rattle.worked_traces.specs.Shown.{xy, plus_plus, two, nothing, quota_one, limited_at}
 use Rattle.lines.specs.Words.{parts}
 use Rattle.pipe.specs.Queue.{queue}
-use Rattle.pool.specs.Meaning.{count, sum_below, total as all-counts}
+use Rattle.pool.specs.Meaning.{count, sum_below, total as all_counts}
 use Rattle.script.specs.Reading.{read_parts}
 use Rattle.std.specs.Fmt.{digits}
 use Rattle.tree.specs.Nodes.{total}
@@ -18,7 +18,7 @@ abbrev rounds : ℕ → List Act
 rounds y = does (step 1) [] ∷ does (step 3) (y ∷ []) ∷ does (step 4) [] ∷ does (step 1) [] ∷ does (step 4) [] ∷ does (step 5) [] ∷ []
 
 pub returns : goal.returns
-unfolding parts read_parts total digits count sum_below all-counts queue
+unfolding parts read_parts total digits count sum_below all_counts queue
 returns c = record {
   law = (
     tree_z,

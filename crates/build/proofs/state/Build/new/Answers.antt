@@ -2,6 +2,7 @@ use Rattle.std.proofs.Common.{◌≡◌, false, vec_capacity, sym, ap, ◌∙◌
 use Rattle.build.proofs.Fresh.{fresh_fits}
 use Rattle.build.proofs.Keeping.{kept_by}
 use Rattle.build.proofs.state.Build.new.Goals as goal
+use Rattle.build.specs.Lost.{memory}
 use Rattle.build.specs.Fits.{Fits}
 use Rattle.build.specs.Models.{status}
 use Rattle.law.proofs.Planning.{trees_planned}
@@ -11,16 +12,16 @@ use Rattle.law.specs.Sound.{Sound}
 use Rattle.rules.specs.Plans.{plan_of}
 use Rattle.tree.specs.Questions.{nodes_of}
 
-pub invariant-of-result : goal.invariant-of-result
-invariant-of-result c =
-    let e = c.in-ok-work.work in
-    let fresh = c.in-ok-work.ensures.result.0 in
+pub invariant_of-result : goal.invariant_of-result
+invariant_of-result c =
+    let e = c.in_ok-work.work in
+    let fresh = c.in_ok-work.ensures.result.0 in
     let t = plan_of (nodes_of e.tree) in
     let same : status e ≡ unopened t = λ i. record { build = fresh.build i; written = fresh.written i } in
-    kept_by e (subst (λ d. Fits d (vec_capacity e.tokens.held) (vec_capacity e.losses) (vec_capacity e.nodes)) (sym fresh.build) (fresh_fits e.tree false _ _ _ fresh.hands fresh.notes fresh.rows)) (subst Sound (sym same) (fresh_sound t (trees_planned e.tree)))
+    kept_by e (subst (λ d. Fits d (vec_capacity e.tokens.held) (memory e.losses) (vec_capacity e.nodes)) (sym fresh.build) (fresh_fits e.tree false _ _ _ fresh.hands fresh.jobs fresh.notes fresh.none fresh.rows)) (subst Sound (sym same) (fresh_sound t (trees_planned e.tree)))
 
 pub returns : goal.returns
 returns c =
-    let e = c.in-ok-work.work in
-    let fresh = c.in-ok-work.ensures.result in
+    let e = c.in_ok-work.work in
+    let fresh = c.in_ok-work.ensures.result in
     record { result = (λ i. record { build = fresh.0.build i; written = fresh.0.written i }) ∙ ap (λ ns. unopened (plan_of ns)) fresh.1 }

@@ -30,8 +30,8 @@ reads_made w tree keep before after p q old new (Err e) opened = tt
 pub open-requires : goal.open-requires
 open-requires g c = record { fit = fit_by c.args.self.now }
 
-pub invariant-of-self : goal.invariant-of-self
-invariant-of-self g c =
+pub invariant_of-self : goal.invariant_of-self
+invariant_of-self g c =
     let b = c.args.self.now in
     let tree = c.args.tree.now in
     let done = c.open in

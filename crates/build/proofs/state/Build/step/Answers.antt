@@ -9,8 +9,8 @@ use Rattle.law.specs.Calls as requests
 pub step-requires : goal.step-requires
 step-requires g c = let b = c.args.self.now in record { fit = fit_by b; within = omega (arith, reach_within b.work (sound_by b)) }
 
-pub invariant-of-self : goal.invariant-of-self
-invariant-of-self g c =
+pub invariant_of-self : goal.invariant_of-self
+invariant_of-self g c =
     let b = c.args.self.now in
     let done = c.step in
     kept_by done.new.self done.ensures.still.fit

@@ -17,13 +17,13 @@ pub returns-then-n-eq0 : goal.returns-then-n-eq0
 returns-then-n-eq0 g t c =
     let w = g.P.Lender.ways in
     let how = c.args.how in
-    let change = c.end-one.ensures.after in
+    let change = c.end_one.ensures.after in
     let noted = c.finish.ensures.after in
-    let is : model c.finish.new.self ≡ model c.end-one.new.self = ap model noted.same in
+    let is : model c.finish.new.self ≡ model c.end_one.new.self = ap model noted.same in
     let build = is ∙ change.build in
     let ended = ends_leads w (model c.args.self.now) how c.args.n _ change.build change.wrote in
     record {
-      after = top_leads w (state_of how) c.args.n _ _ c.if-n-eq0.true (leads_both w (leads_then w finish ended) (finish_leads w (model c.end-one.new.self) _ is noted.wrote));
+      after = top_leads w (state_of how) c.args.n _ _ c.if-n-eq0.true (leads_both w (leads_then w finish ended) (finish_leads w (model c.end_one.new.self) _ is noted.wrote));
       kept = record {
         fit = subst Fit (sym noted.same) change.fit;
         backed = subst (Backed w _) (sym (ap (λ (d : Build). d.tokens) build)) c.requires.backed;
@@ -35,32 +35,32 @@ returns-then-n-eq0 g t c =
 
 pub end-requires : goal.end-requires
 end-requires g t c κs within =
-    let kept = c.end-child.ensures.kept in
+    let kept = c.end_child.ensures.kept in
     let n = c.args.n in
     let tree = c.args.self.now.tree in
     let below = (tree.placed n (omega arith, c.requires.node)).0 in
     let nodes = ap (λ p. p.nodes) kept.plan in
-    let runs = over_runs (model c.end-child.new.self) c.make-of-m.result (sym c.if-is-over.ensures) in
-    (omega (arith, c.decreases), (within, (fits_other c.make-of-m.result kept.fit, (kept.backed, (omega (arith, c.requires.node), (runs, omega (arith, kept.spent, c.requires.room, c.end-child.auto.buffer)))))))
+    let runs = over_runs (model c.end_child.new.self) c.make_of-m.result (sym c.if-is_over.ensures) in
+    (omega (arith, c.decreases), (within, (fits_other c.make_of-m.result kept.fit, (kept.backed, (omega (arith, c.requires.node), (runs, omega (arith, kept.spent, c.requires.room, c.end_child.auto.buffer)))))))
 
-pub returns-then-is-over : goal.returns-then-is-over
-returns-then-is-over g t c =
+pub returns-then-is_over : goal.returns-then-is_over
+returns-then-is_over g t c =
     let w = g.P.Lender.ways in
-    let kept = c.end-child.ensures.kept in
+    let kept = c.end_child.ensures.kept in
     let n = c.args.n in
-    let m = c.make-of-m.result in
+    let m = c.make_of-m.result in
     let tree = c.args.self.now.tree in
     let below = (tree.placed n (omega arith, c.requires.node)).0 in
     let nodes = ap (λ p. p.nodes) kept.plan in
     record {
       after = leads_both w
-          (over_leads w (state_of c.args.how) n _ _ (λ e. omega arith) m (sym c.make-of-m.ensures) (trees_ordered c.end-child.new.self.tree) (omega (arith, c.requires.node)) (omega arith) (sym c.if-is-over.ensures) (state_of c.make-end-how.result) c.make-end-how.ensures c.end-child.ensures.after)
+          (over_leads w (state_of c.args.how) n _ _ (λ e. omega arith) m (sym c.make_of-m.ensures) (trees_ordered c.end_child.new.self.tree) (omega (arith, c.requires.node)) (omega arith) (sym c.if-is_over.ensures) (state_of c.make_end-how.result) c.make_end-how.ensures c.end_child.ensures.after)
           c.end.ensures.after;
       kept = kept_both (reach c.args.self.now - 2) (λ h. omega arith) kept c.end.ensures.kept;
     }
 
-pub returns-else-is-over : goal.returns-else-is-over
-returns-else-is-over g t c = record {
-  after = stays_leads g.P.Lender.ways (state_of c.args.how) c.args.n _ _ (λ e. omega arith) c.make-of-m.result (sym c.make-of-m.ensures) (sym c.if-is-over.ensures) c.end-child.ensures.after;
-  kept = c.end-child.ensures.kept;
+pub returns-else-is_over : goal.returns-else-is_over
+returns-else-is_over g t c = record {
+  after = stays_leads g.P.Lender.ways (state_of c.args.how) c.args.n _ _ (λ e. omega arith) c.make_of-m.result (sym c.make_of-m.ensures) (sym c.if-is_over.ensures) c.end_child.ensures.after;
+  kept = c.end_child.ensures.kept;
 }

@@ -24,11 +24,11 @@ returns c =
     let fits = c.requires.fit in
     let waits = c.requires.waits in
     let place : 0 < length b.nodes = omega (arith, fits.whole, e.tree.counted.0) in
-    let node = after_start _ (at b 0) c.accept.new.self c.accept.ensures.after (read_at b 0 _ place c.index-mut.ensures.value) waits in
+    let node = after_start _ (at b 0) c.accept.new.self c.accept.ensures.after (read_at b 0 _ place c.index_mut.ensures.value) waits in
     let same : Open (c.args.tokens + 1) c.flag-keep.result c.count-nodes.result ≡ Open (c.args.tokens + 1) (bit e.keep) b.plan.nodes = λ i. Open (c.args.tokens + 1) (c.flag-keep.ensures i) (c.count-nodes.ensures.result i) in
     record {
       after = subst (λ r. Changed e c.args.buffer.now (in_state b 0 Running) r 0 c.note.new.self c.note.new.buffer) same
           (changed_by e (in_state b 0 Running) 0 c.note.ensures.after refl (ap (with_node b 0) node)
-          (fits_set b 0 (with_state (at b 0) Running) b.tokens b.losses fits e.tree.counted.0 (omega (arith, ap unended waits)) refl (omega (arith, ap unstarted waits)) (omega (arith, ap unended waits)))
+          (fits_set b 0 (with_state (at b 0) Running) b.tokens fits e.tree.counted.0 (omega (arith, ap unended waits)) refl (omega (arith, ap unstarted waits)))
           (omega (arith, started_room b 0 place waits)));
     }

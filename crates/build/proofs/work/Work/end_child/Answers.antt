@@ -9,20 +9,20 @@ use Rattle.build.proofs.Leading.{leads_then, leads_both}
 use Rattle.build.proofs.Upwards.{ends_leads, mark_leads, marked_tokens, marked_plan, marked_keep}
 use Rattle.build.proofs.work.Work.end_child.Goals as goal
 
-pub put-one-requires : goal.put-one-requires
-put-one-requires g c =
-    let change = c.end-one.ensures.after in
+pub put_one-requires : goal.put_one-requires
+put_one-requires g c =
+    let change = c.end_one.ensures.after in
     record {
       fit = change.fit;
       backed = subst (Backed g.P.Lender.ways c.args.pool.now) (sym (ap (λ (d : Build). d.tokens) change.build)) c.requires.backed;
       byte = omega (arith, c.requires.nodes.1, c.requires.fit.small);
-      room = omega (arith, change.spent, c.requires.room, c.end-one.auto.buffer);
+      room = omega (arith, change.spent, c.requires.room, c.end_one.auto.buffer);
     }
 
 pub mark-requires : goal.mark-requires
 mark-requires g c =
-    let kept = c.put-one.ensures.kept in
-    let nodes = ap (λ p. p.nodes) (kept.plan ∙ ap (λ (d : Build). d.plan) c.end-one.ensures.after.build) in
+    let kept = c.put_one.ensures.kept in
+    let nodes = ap (λ p. p.nodes) (kept.plan ∙ ap (λ (d : Build). d.plan) c.end_one.ensures.after.build) in
     record { fit = kept.fit; node = omega (arith, c.requires.nodes.1) }
 
 pub returns : goal.returns
@@ -31,15 +31,15 @@ returns g c =
     let n = c.args.n in
     let m = c.args.m in
     let how = c.args.how in
-    let change = c.end-one.ensures.after in
-    let kept = c.put-one.ensures.kept in
+    let change = c.end_one.ensures.after in
+    let kept = c.put_one.ensures.kept in
     let remade = c.mark.ensures.after in
-    let b = model c.put-one.new.self in
+    let b = model c.put_one.new.self in
     let ended = ends_leads w (model c.args.self.now) how n _ change.build change.wrote in
-    let inside : c.put-one.new.self.written ≤ length c.put-one.new.buffer = omega (arith, kept.spent, change.spent, c.requires.room, c.end-one.auto.buffer, c.put-one.auto.buffer) in
+    let inside : c.put_one.new.self.written ≤ length c.put_one.new.buffer = omega (arith, kept.spent, change.spent, c.requires.room, c.end_one.auto.buffer, c.put_one.auto.buffer) in
     let marked = mark_leads w b how n m _ remade.build remade.written inside in
     record {
-      after = leads_both w (leads_then w (λ r. mark (state_of how) m n (put_one answering m r)) ended) (leads_both w (leads_then w (mark (state_of how) m n) c.put-one.ensures.after) marked);
+      after = leads_both w (leads_then w (λ r. mark (state_of how) m n (put_one answering m r)) ended) (leads_both w (leads_then w (mark (state_of how) m n) c.put_one.ensures.after) marked);
       kept = record {
         fit = remade.fit;
         backed = subst (Backed w _) (sym (ap (λ (d : Build). d.tokens) remade.build ∙ marked_tokens how m n b)) kept.backed;

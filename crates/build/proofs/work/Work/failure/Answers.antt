@@ -3,27 +3,27 @@ use Rattle.build.specs.Models.{model}
 use Rattle.build.proofs.Descending.{no_turns, did_not_fail, failed_job, failed_make}
 use Rattle.build.proofs.work.Work.failure.Goals as goal
 
-pub returns-in-default : goal.returns-in-default
-returns-in-default c =
-    let none = did_not_fail (model c.args.self.now) c.loop-turns.-turns c.loop-turns.k c.loop-turns-test.true c.progress-node.result c.progress-node.ensures c.in-default.not-Failed in
+pub returns-in_default : goal.returns-in_default
+returns-in_default c =
+    let none = did_not_fail (model c.args.self.now) c.loop-turns._turns c.loop-turns.k c.loop-turns-test.true c.progress-node.result c.progress-node.ensures c.in_default.not-Failed in
     record { result = sym none ∙ c.loop-turns.invariant }
 
-pub returns-then-not-is-make : goal.returns-then-not-is-make
-returns-then-not-is-make c =
-    let own = failed_job (model c.args.self.now) c.loop-turns.-turns c.loop-turns.k c.loop-turns-test.true c.progress-node.result c.progress-node.ensures c.in-Failed.cause c.in-Failed.is c.if-not-is-make.ensures in
+pub returns-then-not-is_make : goal.returns-then-not-is_make
+returns-then-not-is_make c =
+    let own = failed_job (model c.args.self.now) c.loop-turns._turns c.loop-turns.k c.loop-turns-test.true c.progress-node.result c.progress-node.ensures c.in-Failed.cause c.in-Failed.is c.if-not-is_make.ensures in
     record { result = sym own ∙ c.loop-turns.invariant }
 
-pub returns-in-default-first-failed : goal.returns-in-default-first-failed
-returns-in-default-first-failed c =
-    let none = failed_make (model c.args.self.now) c.loop-turns.-turns c.loop-turns.k c.loop-turns-test.true c.progress-node.result c.progress-node.ensures c.in-Failed.cause c.in-Failed.is c.if-not-is-make.ensures None c.in-default-first-failed.is in
+pub returns-in_default-first_failed : goal.returns-in_default-first_failed
+returns-in_default-first_failed c =
+    let none = failed_make (model c.args.self.now) c.loop-turns._turns c.loop-turns.k c.loop-turns-test.true c.progress-node.result c.progress-node.ensures c.in-Failed.cause c.in-Failed.is c.if-not-is_make.ensures None c.in_default-first_failed.is in
     record { result = sym none ∙ c.loop-turns.invariant }
 
 pub loop-turns-preserved : goal.loop-turns-preserved
 loop-turns-preserved c =
-    let onward = failed_make (model c.args.self.now) c.loop-turns.-turns c.loop-turns.k c.loop-turns-test.true c.progress-node.result c.progress-node.ensures c.in-Failed.cause c.in-Failed.is c.if-not-is-make.ensures (Some c.in-Some.child) c.in-Some.is in
+    let onward = failed_make (model c.args.self.now) c.loop-turns._turns c.loop-turns.k c.loop-turns-test.true c.progress-node.result c.progress-node.ensures c.in-Failed.cause c.in-Failed.is c.if-not-is_make.ensures (Some c.in-Some.child) c.in-Some.is in
     sym onward ∙ c.loop-turns.invariant
 
 pub returns : goal.returns
 returns c =
-    let none = no_turns (model c.args.self.now) c.loop-turns.-turns c.loop-turns.k (omega arith) in
+    let none = no_turns (model c.args.self.now) c.loop-turns._turns c.loop-turns.k (omega arith) in
     record { result = sym none ∙ c.loop-turns.invariant }

@@ -6,8 +6,8 @@ use Rattle.build.specs.Filling.{fault_from}
 use Rattle.build.specs.Models.{model}
 use Rattle.build.proofs.work.Work.fault.Goals as goal
 
-pub returns-in-default-tokens-at : goal.returns-in-default-tokens-at
-returns-in-default-tokens-at c =
+pub returns-in_default-tokens_at : goal.returns-in_default-tokens_at
+returns-in_default-tokens_at c =
     let b = model c.args.self.now in
     let n = c.args.n in
     let inside = lt-ltb n b.plan.nodes (omega arith) in

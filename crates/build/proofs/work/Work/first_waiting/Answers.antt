@@ -5,8 +5,8 @@ use Rattle.build.proofs.Seeking.{sought, sought_past, sought_on, sought_at}
 use Rattle.build.proofs.work.Work.first_waiting.Goals as goal
 use Rattle.build.proofs.work.Work.first_waiting.Goals.{in-Running, in-Good}
 
-pub loop-k-preserved-then-make-of-m : goal.loop-k-preserved-then-make-of-m
-loop-k-preserved-then-make-of-m c =
+pub loop-k-preserved-then-make_of-m : goal.loop-k-preserved-then-make_of-m
+loop-k-preserved-then-make_of-m c =
     let b = model c.args.self.now in
     sym (sought_on b c.args.m c.loop-k.free c.loop-k.ended c.loop-k.k (omega arith) (λ e. omega arith)) ∙ c.loop-k.invariant
 

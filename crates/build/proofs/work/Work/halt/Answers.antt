@@ -13,19 +13,19 @@ use Rattle.rules.specs.Plans.{all_makes}
 pub note-requires : goal.note-requires
 note-requires g c =
     let b = model c.args.self.now in
-    let accepts = call_accepts b (g.P.Lender.ways.means c.args.pool.now).outs (length c.args.buffer.now) c.in-default.ensures in
+    let accepts = call_accepts b (g.P.Lender.ways.means c.args.pool.now).outs (length c.args.buffer.now) c.in_default.ensures in
     record { room = omega (arith, c.requires.within, accepts.long, ap unended accepts.live) }
 
-pub stop-makes-requires : goal.stop-makes-requires
-stop-makes-requires g c = record { fit = subst Fit (sym c.note.ensures.after.same) c.requires.fit }
+pub stop_makes-requires : goal.stop_makes-requires
+stop_makes-requires g c = record { fit = subst Fit (sym c.note.ensures.after.same) c.requires.fit }
 
-pub end-jobs-requires : goal.end-jobs-requires
-end-jobs-requires g c =
+pub end_jobs-requires : goal.end_jobs-requires
+end_jobs-requires g c =
     let w = g.P.Lender.ways in
     let b = model c.args.self.now in
-    let accepts = call_accepts b (w.means c.args.pool.now).outs (length c.args.buffer.now) c.in-default.ensures in
+    let accepts = call_accepts b (w.means c.args.pool.now).outs (length c.args.buffer.now) c.in_default.ensures in
     let noted = c.note.ensures.after in
-    let stopped = c.stop-makes.ensures.after in
+    let stopped = c.stop_makes.ensures.after in
     let same : model c.note.new.self ≡ b = ap model noted.same in
     let tokens = ap (λ (d : Build). d.tokens) stopped.build ∙ stop_tokens (all_makes (model c.note.new.self).plan) (model c.note.new.self) ∙ ap (λ (d : Build). d.tokens) same in
     record {
@@ -38,11 +38,11 @@ pub returns : goal.returns
 returns g c =
     let w = g.P.Lender.ways in
     let b = model c.args.self.now in
-    let accepts = call_accepts b (w.means c.args.pool.now).outs (length c.args.buffer.now) c.in-default.ensures in
+    let accepts = call_accepts b (w.means c.args.pool.now).outs (length c.args.buffer.now) c.in_default.ensures in
     let noted = c.note.ensures.after in
-    let stopped = c.stop-makes.ensures.after in
+    let stopped = c.stop_makes.ensures.after in
     record {
-      after = called w halt _ _ _ c.in-default.ensures (ends_here w (halt_leads w c.args.self.now c.note.new.self c.stop-makes.new.self c.end-jobs.new.self noted stopped.build stopped.written (omega (arith, noted.wrote.room, c.note.auto.buffer)) c.end-jobs.ensures.after)) c.count-running.ensures;
+      after = called w halt _ _ _ c.in_default.ensures (ends_here w (halt_leads w c.args.self.now c.note.new.self c.stop_makes.new.self c.end_jobs.new.self noted stopped.build stopped.written (omega (arith, noted.wrote.room, c.note.auto.buffer)) c.end_jobs.ensures.after)) c.count_running.ensures;
       unaltered = tt;
-      fit = c.end-jobs.ensures.kept.fit;
+      fit = c.end_jobs.ensures.kept.fit;
     }

@@ -10,15 +10,15 @@ pub loop-k-init : goal.loop-k-init
 loop-k-init c =
     let b = model c.args.self.now in sym (any_those (running b) (λ k. eqb (b.plan.make k) c.args.m) (numbers 1 (b.plan.nodes - 1)))
 
-pub returns-then-runs-under : goal.returns-then-runs-under
-returns-then-runs-under c =
+pub returns-then-runs_under : goal.returns-then-runs_under
+returns-then-runs_under c =
     let b = model c.args.self.now in
-    sym (any_found (runs_under b c.args.m) b.plan.nodes c.loop-k.k (omega arith) (sym c.if-runs-under.ensures)) ∙ c.loop-k.invariant
+    sym (any_found (runs_under b c.args.m) b.plan.nodes c.loop-k.k (omega arith) (sym c.if-runs_under.ensures)) ∙ c.loop-k.invariant
 
 pub loop-k-preserved : goal.loop-k-preserved
 loop-k-preserved c =
     let b = model c.args.self.now in
-    sym (any_on (runs_under b c.args.m) b.plan.nodes c.loop-k.k (omega arith) (sym c.if-runs-under.ensures)) ∙ c.loop-k.invariant
+    sym (any_on (runs_under b c.args.m) b.plan.nodes c.loop-k.k (omega arith) (sym c.if-runs_under.ensures)) ∙ c.loop-k.invariant
 
 pub returns : goal.returns
 returns c =

@@ -10,15 +10,15 @@ pub loop-k-init : goal.loop-k-init
 loop-k-init c =
     let b = model c.args.self.now in sym (any_those (waiting b) (λ k. eqb (b.plan.make k) c.args.m) (numbers 1 (b.plan.nodes - 1)))
 
-pub returns-then-waits-under : goal.returns-then-waits-under
-returns-then-waits-under c =
+pub returns-then-waits_under : goal.returns-then-waits_under
+returns-then-waits_under c =
     let b = model c.args.self.now in
-    sym (any_found (waits_under b c.args.m) b.plan.nodes c.loop-k.k (omega arith) (sym c.if-waits-under.ensures)) ∙ c.loop-k.invariant
+    sym (any_found (waits_under b c.args.m) b.plan.nodes c.loop-k.k (omega arith) (sym c.if-waits_under.ensures)) ∙ c.loop-k.invariant
 
 pub loop-k-preserved : goal.loop-k-preserved
 loop-k-preserved c =
     let b = model c.args.self.now in
-    sym (any_on (waits_under b c.args.m) b.plan.nodes c.loop-k.k (omega arith) (sym c.if-waits-under.ensures)) ∙ c.loop-k.invariant
+    sym (any_on (waits_under b c.args.m) b.plan.nodes c.loop-k.k (omega arith) (sym c.if-waits_under.ensures)) ∙ c.loop-k.invariant
 
 pub returns : goal.returns
 returns c =

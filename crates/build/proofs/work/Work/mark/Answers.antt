@@ -2,6 +2,7 @@ use Rattle.std.proofs.Common.{◌≡◌, ◌<◌, length, vec_capacity, sym, ref
 use Rattle.rules.specs.Builds.{at, with_node}
 use Rattle.rules.specs.Ending.{marked}
 use Rattle.build.specs.Ended.{marked_build}
+use Rattle.build.specs.Lost.{memory}
 use Rattle.build.specs.Fits.{Fits}
 use Rattle.build.specs.Models.{model}
 use Rattle.build.specs.Rooms.{room}
@@ -18,10 +19,10 @@ returns-in-Failed c =
     let fits = c.requires.fit in
     let place : m < length b.nodes = omega (arith, fits.whole, c.requires.node) in
     let x = marked e.keep n (at b m) in
-    let node = c.mark.ensures.after ∙ ap (marked e.keep n) (read_at b m _ place c.index-mut.ensures.value) in
+    let node = c.mark.ensures.after ∙ ap (marked e.keep n) (read_at b m _ place c.index_mut.ensures.value) in
     let how = ap (λ h. marked_build h m n b) (sym c.in-Failed.is) in
     record {
       after = remade_by e _ (marked_build c.args.how m n b) refl (ap (with_node b m) node ∙ how)
-          (subst (λ d. Fits d (vec_capacity e.tokens.held) (vec_capacity e.losses) (vec_capacity e.nodes)) how (fits_set b m x b.tokens b.losses fits c.requires.node (omega arith) refl (omega arith) (omega arith)))
+          (subst (λ d. Fits d (vec_capacity e.tokens.held) (memory e.losses) (vec_capacity e.nodes)) how (fits_set b m x b.tokens fits c.requires.node (omega arith) refl (omega arith)))
           (omega (arith, same_room b m place x refl refl, ap room how));
     }

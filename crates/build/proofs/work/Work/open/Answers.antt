@@ -11,6 +11,7 @@ use Rattle.schedule.specs.Buffers.{Wrote}
 use Rattle.schedule.specs.Records.{bytes}
 use Rattle.schedule.specs.declared.record.Record.TheVariants.{Open}
 use Rattle.tree.specs.Questions.{nodes_of}
+use Rattle.build.specs.Lost.{memory}
 use Rattle.build.specs.Fits.{Fits, Backed}
 use Rattle.build.specs.Models.{model}
 use Rattle.build.specs.Rooms.{room}
@@ -27,11 +28,11 @@ begin-requires g c =
     let keep = c.args.keep in
     let e = c.renew.new.self in
     let fresh = c.renew.ensures.after in
-    let long = open_accepts (plan_of (nodes_of t)) (total (g.P.Lender.ways.means c.args.pool.now).outs) (length c.args.buffer.now) c.in-default.ensures in
+    let long = open_accepts (plan_of (nodes_of t)) (total (g.P.Lender.ways.means c.args.pool.now).outs) (length c.args.buffer.now) c.in_default.ensures in
     record {
-      fit = subst (λ d. Fits d (vec_capacity e.tokens.held) (vec_capacity e.losses) (vec_capacity e.nodes)) (sym fresh.build) (fresh_fits t keep _ _ _ fresh.hands fresh.notes fresh.rows);
+      fit = subst (λ d. Fits d (vec_capacity e.tokens.held) (memory e.losses) (vec_capacity e.nodes)) (sym fresh.build) (fresh_fits t keep _ _ _ fresh.hands fresh.jobs fresh.notes fresh.none fresh.rows);
       waits = ap (λ (d : Build). (at d 0).state) fresh.build ∙ ap (λ (x : Progress). x.state) (fresh_waits (plan_of (nodes_of t)) keep 0);
-      few = omega (arith, c.total-in-tokens.ensures, (g.met.P.Lender.bounded c.args.pool.now).few);
+      few = omega (arith, c.total_in-tokens.ensures, (g.met.P.Lender.bounded c.args.pool.now).few);
       room = omega (arith, long, fresh.written, ap room fresh.build, fresh_room t keep);
     }
 
@@ -40,7 +41,7 @@ settle-requires g c =
     let t = c.args.tree.now in
     let fresh = c.renew.ensures.after in
     let change = c.begin.ensures.after in
-    let long = open_accepts (plan_of (nodes_of t)) (total (g.P.Lender.ways.means c.args.pool.now).outs) (length c.args.buffer.now) c.in-default.ensures in
+    let long = open_accepts (plan_of (nodes_of t)) (total (g.P.Lender.ways.means c.args.pool.now).outs) (length c.args.buffer.now) c.in_default.ensures in
     let none = ap (λ (d : Build). d.tokens) change.build ∙ ap (λ (d : Build). d.tokens) fresh.build in
     record {
       fit = change.fit;
@@ -58,15 +59,15 @@ returns g c =
     let change = c.begin.ensures.after in
     let kept = c.settle.ensures.kept in
     let old = c.args.buffer.now in
-    let record_is : Open (c.total-in-tokens.result + 1) (bit c.renew.new.self.keep) (model c.renew.new.self).plan.nodes ≡ Open (tokens + 1) (bit keep) t.nodes =
-    λ i. Open (c.total-in-tokens.ensures i + 1) (bit (fresh.build i).keep) (fresh.build i).plan.nodes in
+    let record_is : Open (c.total_in-tokens.result + 1) (bit c.renew.new.self.keep) (model c.renew.new.self).plan.nodes ≡ Open (tokens + 1) (bit keep) t.nodes =
+    λ i. Open (c.total_in-tokens.ensures i + 1) (bit (fresh.build i).keep) (fresh.build i).plan.nodes in
     let build = change.build ∙ ap (λ d. in_state d 0 Running) fresh.build in
     let wrote = subst (λ n. Wrote old n (bytes (Open (tokens + 1) (bit keep) t.nodes)) c.begin.new.buffer c.begin.new.self.written) fresh.written
     (subst (λ r. Wrote old c.renew.new.self.written (bytes r) c.begin.new.buffer c.begin.new.self.written) record_is change.wrote) in
     let opens = begun_leads w (Open (tokens + 1) (bit keep) t.nodes) (in_state (begun_on t keep) 0 Running) _ build wrote in
     let ends = leads_end w (leads_then w (settle answering) opens) c.settle.ensures.after in
     record {
-      after = (sym c.in-default.ensures, ran w (λ r. settle answering (noted (Open (tokens + 1) (bit keep) t.nodes) r)) _ _ ends, c.count-running.ensures);
+      after = (sym c.in_default.ensures, ran w (λ r. settle answering (noted (Open (tokens + 1) (bit keep) t.nodes) r)) _ _ ends, c.count_running.ensures);
       fit = kept.fit;
       unaltered = tt;
     }

@@ -1,5 +1,6 @@
 use Rattle.std.proofs.Common.{◌≡◌, vec_capacity, sym, refl, ap, ◌∙◌, subst, arith}
 use Rattle.rules.specs.Builds.{Build, with_tokens}
+use Rattle.build.specs.Lost.{memory}
 use Rattle.build.specs.Fits.{Fit, Fits, Backed}
 use Rattle.build.specs.Models.{model, in_hand}
 use Rattle.build.specs.Rooms.{room}
@@ -7,17 +8,17 @@ use Rattle.build.proofs.Fitting.{fits_fewer}
 use Rattle.build.proofs.Returning.{back_fewer, back_out, backed_fewer, put_none_leads, put_one_leads}
 use Rattle.build.proofs.work.Work.put_one.Goals as goal
 
-pub returns-in-default : goal.returns-in-default
-returns-in-default g c =
+pub returns-in_default : goal.returns-in_default
+returns-in_default g c =
     let w = g.P.Lender.ways in
     let e = c.args.self.now in
     let b = model e in
-    let none = c.in-default.ensures.after in
+    let none = c.in_default.ensures.after in
     let same = none.1 in
     record {
       after = put_none_leads w b c.args.m _ _ _ e.written (omega (arith, c.requires.room)) none.0 (ap (with_tokens b) same);
       kept = record {
-        fit = subst (λ h. Fits (with_tokens b (in_hand c.give-back.new.self)) h (vec_capacity e.losses) (vec_capacity e.nodes)) (sym c.in-default.ensures.capacity) (subst (λ ts. Fits (with_tokens b ts) (vec_capacity e.tokens.held) (vec_capacity e.losses) (vec_capacity e.nodes)) (sym same) c.requires.fit);
+        fit = subst (λ h. Fits (with_tokens b (in_hand c.give_back.new.self)) h (memory e.losses) (vec_capacity e.nodes)) (sym c.in_default.ensures.capacity) (subst (λ ts. Fits (with_tokens b ts) (vec_capacity e.tokens.held) (memory e.losses) (vec_capacity e.nodes)) (sym same) c.requires.fit);
         backed = subst (Backed w _) (sym same) c.requires.backed;
         plan = refl;
         keep = refl;
@@ -35,15 +36,15 @@ returns g c =
     let e = c.args.self.now in
     let b = model e in
     let found = c.in-Some.ensures.after in
-    let back = c.in-default-put.ensures in
-    let left = in_hand c.give-back.new.self in
+    let back = c.in_default-put.ensures in
+    let left = in_hand c.give_back.new.self in
     let noted = c.note.ensures.after in
     let is : model c.note.new.self ≡ with_tokens b left = ap model noted.same in
     let fewer = back_fewer c.args.m b.tokens c.in-Some.byte left found in
     record {
       after = put_one_leads w b c.args.m _ c.in-Some.byte left found back is noted.wrote;
       kept = record {
-        fit = subst Fit (sym noted.same) (subst (λ h. Fits (with_tokens b left) h (vec_capacity e.losses) (vec_capacity e.nodes)) (sym c.in-Some.ensures.capacity) (fits_fewer b left c.requires.fit (omega (arith, fewer.long))));
+        fit = subst Fit (sym noted.same) (subst (λ h. Fits (with_tokens b left) h (memory e.losses) (vec_capacity e.nodes)) (sym c.in-Some.ensures.capacity) (fits_fewer b left c.requires.fit (omega (arith, fewer.long))));
         backed = subst (Backed w _) (sym (ap (λ (d : Build). d.tokens) is)) (backed_fewer w _ _ c.args.m b.tokens c.in-Some.byte left c.requires.backed found (g.met.P.Lender.returned _ _ _ back));
         plan = ap (λ (d : Build). d.plan) is;
         keep = ap (λ (d : Build). d.keep) is;

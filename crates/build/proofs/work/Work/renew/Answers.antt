@@ -1,4 +1,6 @@
-use Rattle.std.proofs.Common.{◌≡◌, reverse, length, replicate, vec_items, refl, ap, ◌∙◌, arith}
+use Rattle.std.proofs.Common.{◌≡◌, map, reverse, length, replicate, vec_items, refl, ap, ◌∙◌, arith}
+use Rattle.build.specs.Lost.{losses_by}
+use Rattle.build.specs.Models.{held}
 use Rattle.build.proofs.Fresh.{filled_table}
 use Rattle.build.proofs.work.Work.renew.Goals as goal
 use Rattle.rules.specs.Builds.{unbegun}
@@ -17,9 +19,11 @@ returns c =
     let nodes : vec_items c.resize.new.self ≡ replicate (length (nodes_of t)) unbegun = filled_table _ _ _ _ _ _ resized.items ok cleared.items cleared.len count in
     record {
       after = record {
-        build = λ i. record { plan = plan_of (c.copy-from.ensures.after i); keep = c.args.keep; nodes = nodes i; tokens = reverse (c.clear-2.ensures.items i); losses = c.clear-3.ensures.items i };
+        build = λ i. record { plan = plan_of (c.copy_from.ensures.after i); keep = c.args.keep; nodes = nodes i; tokens = reverse (map held (c.clear-2.ensures.items i)); losses = losses_by (reverse (c.clear-3.ensures.items i)) (c.clear-4.ensures.items i) };
         hands = omega (arith, fits.room, c.clear-2.ensures.capacity);
-        notes = omega (arith, fits.spare, c.clear-3.ensures.capacity);
+        jobs = omega (arith, fits.ample, c.clear-3.ensures.capacity);
+        notes = omega (arith, fits.spare, c.clear-4.ensures.capacity);
+        none = c.clear-4.ensures.len;
         rows = omega (arith, fits.wide, cleared.capacity, resized.capacity);
         written = refl;
       };

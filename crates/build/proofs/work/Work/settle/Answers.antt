@@ -9,8 +9,8 @@ loop-init g c =
     let w = g.P.Lender.ways in
     (settling_none w _ (omega (arith, c.requires.room)) (omega (arith, c.requires.fit.few)), kept_same w _ c.args.self.now c.requires.fit c.requires.backed)
 
-pub start-one-requires : goal.start-one-requires
-start-one-requires g c =
+pub start_one-requires : goal.start_one-requires
+start_one-requires g c =
     let kept = c.loop.invariant.1 in record { fit = kept.fit; backed = kept.backed; room = omega (arith, kept.spent, c.requires.room, c.loop.auto.buffer) }
 
 pub loop-smaller : goal.loop-smaller

@@ -22,9 +22,9 @@ returns c =
     let fits = c.requires.fit in
     let may = c.requires.start in
     let place : n < length b.nodes = omega (arith, fits.whole, may.child) in
-    let node = after_start _ (at b n) c.accept.new.self c.accept.ensures.after (read_at b n _ place c.index-mut.ensures.value) may.unbegun in
+    let node = after_start _ (at b n) c.accept.new.self c.accept.ensures.after (read_at b n _ place c.index_mut.ensures.value) may.unbegun in
     record {
       after = changed_by e (in_state b n Running) 0 c.note.ensures.after refl (ap (with_node b n) node)
-          (fits_set b n (with_state (at b n) Running) b.tokens b.losses fits may.child (omega (arith, ap unended may.unbegun)) refl (omega (arith, ap unstarted may.unbegun)) (omega (arith, ap unended may.unbegun)))
+          (fits_set b n (with_state (at b n) Running) b.tokens fits may.child (omega (arith, ap unended may.unbegun)) refl (omega (arith, ap unstarted may.unbegun)))
           (omega (arith, started_room b n place may.unbegun));
     }

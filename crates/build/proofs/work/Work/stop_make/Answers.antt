@@ -13,7 +13,7 @@ returns c =
     let m = c.args.m in
     let fits = c.requires.fit in
     let place : m < length b.nodes = omega (arith, fits.whole, c.requires.node) in
-    let node = c.stop.ensures.after ∙ ap stop (read_at b m _ place c.index-mut.ensures.value) in
+    let node = c.stop.ensures.after ∙ ap stop (read_at b m _ place c.index_mut.ensures.value) in
     record {
-      after = remade_by e _ (with_node b m (stop (at b m))) refl (ap (with_node b m) node) (fits_set b m (stop (at b m)) b.tokens b.losses fits c.requires.node (omega arith) refl (omega arith) (omega arith)) (omega (arith, same_room b m place (stop (at b m)) refl refl));
+      after = remade_by e _ (with_node b m (stop (at b m))) refl (ap (with_node b m) node) (fits_set b m (stop (at b m)) b.tokens fits c.requires.node (omega arith) refl (omega arith)) (omega (arith, same_room b m place (stop (at b m)) refl refl));
     }

@@ -10,17 +10,17 @@ use Rattle.build.proofs.Leading.{leads_both}
 use Rattle.build.proofs.Steps.{step_leads, last_leads}
 use Rattle.build.proofs.work.Work.work_on.Goals as goal
 
-pub returns-then-progress-steps-of : goal.returns-then-progress-steps-of
-returns-then-progress-steps-of g c =
+pub returns-then-progress-steps_of : goal.returns-then-progress-steps_of
+returns-then-progress-steps_of g c =
     let w = g.P.Lender.ways in
     let n = c.args.n in
     let b = model c.args.self.now in
-    let b' = model c.step-one.new.self in
-    let stepped = c.step-one.ensures.after in
+    let b' = model c.step_one.new.self in
+    let stepped = c.step_one.ensures.after in
     let kept = c.end.ensures.kept in
-    let last : (at b' n).done ≡ b'.plan.steps n = sym (ap (λ x. x.done) c.progress.ensures) ∙ c.if-progress-steps-of.true ∙ c.steps-of.ensures in
+    let last : (at b' n).done ≡ b'.plan.steps n = sym (ap (λ x. x.done) c.progress.ensures) ∙ c.if-progress-steps_of.true ∙ c.steps_of.ensures in
     record {
-      after = leads_both w (last_leads w n b b' stepped.build stepped.wrote last (state_of c.last-end-how.result) (c.last-end-how.ensures ∙ ap last_step c.kind-of.ensures)) c.end.ensures.after;
+      after = leads_both w (last_leads w n b b' stepped.build stepped.wrote last (state_of c.last_end-how.result) (c.last_end-how.ensures ∙ ap last_step c.kind_of.ensures)) c.end.ensures.after;
       kept = record {
         fit = kept.fit;
         backed = kept.backed;
@@ -30,15 +30,15 @@ returns-then-progress-steps-of g c =
       };
     }
 
-pub returns-else-progress-steps-of : goal.returns-else-progress-steps-of
-returns-else-progress-steps-of g c =
+pub returns-else-progress-steps_of : goal.returns-else-progress-steps_of
+returns-else-progress-steps_of g c =
     let w = g.P.Lender.ways in
     let n = c.args.n in
     let b = model c.args.self.now in
-    let b' = model c.step-one.new.self in
-    let stepped = c.step-one.ensures.after in
+    let b' = model c.step_one.new.self in
+    let stepped = c.step_one.ensures.after in
     let done = ap (λ x. x.done) c.progress.ensures in
-    let more : (at b' n).done ≡ b'.plan.steps n → ⊥ = λ e. c.if-progress-steps-of.false (done ∙ e ∙ sym c.steps-of.ensures) in
+    let more : (at b' n).done ≡ b'.plan.steps n → ⊥ = λ e. c.if-progress-steps_of.false (done ∙ e ∙ sym c.steps_of.ensures) in
     record {
       after = step_leads w n b b' stepped.build stepped.wrote more;
       kept = record {
