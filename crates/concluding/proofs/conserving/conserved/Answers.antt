@@ -10,6 +10,6 @@ returns g c = record {
       c.step.result (place c.step.new.self) c.step.new.pool c.step.new.buffer c.step.ensures.after
       c.kill.result (place c.kill.new.self) c.kill.new.pool c.kill.new.buffer c.kill.ensures.after
       c.poll.result (place c.poll.new.self) c.poll.new.pool c.poll.new.buffer c.poll.ensures.after
-      c.bring-back.new.pool c.bring-back.ensures.after
+      c.bring_back.new.pool c.bring_back.ensures.after
       c.halt.result (place c.halt.new.self) c.halt.new.pool c.halt.new.buffer c.halt.ensures.after;
 }

@@ -12,16 +12,16 @@ lines_more t n within = let left : count_of t - n ≡ suc (count_of t - (n + 1))
 lines_all : (t : Tree) (n : ℕ) → count_of t ≤ n → lines_from t n (count_of t - n) ≡ []
 lines_all t n past = let left : count_of t - n ≡ 0 = omega arith in ap (lines_from t n) left
 
-pub returns-in-err-push-node : goal.returns-in-err-push-node
-returns-in-err-push-node c =
-    let stopped = err_from_is_err_and c.from-residual.result c.from-residual.ensures.1 in record { after = rw stopped.1 tt }
+pub returns-in_err-push_node : goal.returns-in_err-push_node
+returns-in_err-push_node c =
+    let stopped = err_from_is_err_and c.from_residual.result c.from_residual.ensures.1 in record { after = rw stopped.1 tt }
 
 pub loop-n-preserved : goal.loop-n-preserved
 loop-n-preserved c =
     let t = c.args.tree.now in
     let text = vec_items c.loop-n.text in
     let rest = lines_from t (c.loop-n.n + 1) (count_of t - (c.loop-n.n + 1)) in
-    ap (λ l. l ++ rest) c.in-ok-push-node.ensures.after
+    ap (λ l. l ++ rest) c.in_ok-push_node.ensures.after
     ∙ append_assoc text (node_line t c.loop-n.n) rest
     ∙ ap (λ l. text ++ l) (sym (lines_more t c.loop-n.n (omega (arith, c.loop-n-test.true, c.count-n-end.ensures.result))))
     ∙ c.loop-n.invariant

@@ -5,8 +5,8 @@ use Rattle.report.proofs.printed.event_lines.Goals as goal
 
 pub loop-event-preserved : goal.loop-event-preserved
 loop-event-preserved c =
-    let line = c.in-ok-line.ensures.result in
-    let text = c.in-ok-extend-from-slice.ensures.items ∙ ap (λ l. vec_items c.loop-event.text ++ l) (c.as-bytes.ensures.value ∙ line) in
+    let line = c.in_ok-line.ensures.result in
+    let text = c.in_ok-extend_from_slice.ensures.items ∙ ap (λ l. vec_items c.loop-event.text ++ l) (c.as_bytes.ensures.value ∙ line) in
     let rest = event_lines (drop (c.loop-event.event-index + 1) c.args.events.now) in
     ap (λ l. l ++ rest) text
     ∙ append_assoc (vec_items c.loop-event.text) _ rest

@@ -6,14 +6,14 @@ use Rattle.report.proofs.reports.script_report.Goals as goal
 
 pub returns-in-Ok : goal.returns-in-Ok
 returns-in-Ok c =
-    let tree = c.read-script.new.tree in
-    let comes_to = c.read-script.ensures.law.comes_to (nodes_of tree) c.in-Ok.ensures.result in
+    let tree = c.read_script.new.tree in
+    let comes_to = c.read_script.ensures.law.comes_to (nodes_of tree) c.in-Ok.ensures.result in
     record {
-      result = subst (λ a. Scripted (told_choice c.args.pool) a (vec_items c.push-tree.new.text)) (sym comes_to) (record {
-        round = vec_items c.in-ok-text.text;
-        told = c.in-ok-text.ensures.result;
+      result = subst (λ a. Scripted (told_choice c.args.pool) a (vec_items c.push_tree.new.text)) (sym comes_to) (record {
+        round = vec_items c.in_ok-text-in-Ok.text;
+        told = c.in_ok-text-in-Ok.ensures.result;
         tree = tree;
         same = refl;
-        lines = c.in-ok-push-tree.ensures.after;
+        lines = c.in_ok-push_tree-in-Ok.ensures.after;
       });
     }
