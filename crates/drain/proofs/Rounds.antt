@@ -1,12 +1,11 @@
 -- One obtain or release more in a round. Assumes nothing.
 use Rattle.std.proofs.Common.{◌≡◌, ℕ, ◌+◌, ◌<◌, List, [], ◌∷◌, ◌++◌, map, reverse, length, sym, refl, ap, ◌∙◌, subst, append_assoc, append-nil, arith}
-use mathlib.Core.List.{reverse-append}
 use Rattle.pool.specs.Chain.{took_none, took, put_back, Chain}
 use Rattle.pool.specs.Meaning.{Taken, Returned, count}
 use Rattle.pool.specs.Ways.{Ways}
 use Rattle.pool.proofs.Chains.{chain_append, chain_more}
 use Rattle.pool.proofs.Counts.{count_append}
-use Rattle.std.proofs.lemmas.List.{map_push, map-append}
+use Rattle.std.proofs.lemmas.List.{reverse-append, map_push, map-append}
 use Rattle.std.proofs.lemmas.Bool.Decides.{nat_tests}
 use Rattle.tool.specs.declared.grants.Grant.{Grant}
 use Rattle.drain.specs.Draining.{Happened, Stands, op, bytes_of, ObtainedAll, ReleasedAll, HeldOf, Drained}

@@ -9,8 +9,8 @@ pub returns-then-b-lt33 : goal.returns-then-b-lt33
 returns-then-b-lt33 c =
     let xs = c.args.text.now in
     let next = show_next xs c.loop-b.b-index c.loop-b-test.true in
-    let not-all : all_show (drop c.loop-b.b-index xs) ≡ false = elim c.then-b-lt33.branch [ then-b-lt33-via-then-b-lt33 w ↦ grind (arith, nat_tests, next, w.if-b-lt33.true) | then-b-lt33-via-else-b-lt33+then-b-gt126 w ↦ grind (arith, nat_tests, next, w.if-b-gt126.true) ] in
-    record { result = sym (no_word xs (c.loop-b.invariant ∙ not-all)) }
+    let not_all : all_show (drop c.loop-b.b-index xs) ≡ false = elim c.then-b-lt33.branch [ then-b-lt33-via-then-b-lt33 w ↦ grind (arith, nat_tests, next, w.if-b-lt33.true) | then-b-lt33-via-else-b-lt33+then-b-gt126 w ↦ grind (arith, nat_tests, next, w.if-b-gt126.true) ] in
+    record { result = sym (no_word xs (c.loop-b.invariant ∙ not_all)) }
 
 pub loop-b-preserved : goal.loop-b-preserved
 loop-b-preserved c =

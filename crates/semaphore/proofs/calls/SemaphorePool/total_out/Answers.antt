@@ -1,5 +1,4 @@
-use mathlib.Core.Path.{sym}
-use lib.Dec.{lit<}
+use Rattle.std.proofs.Common.{sym, lit<}
 use Rattle.pool.proofs.Totals.{total_only}
 use Rattle.semaphore.proofs.calls.SemaphorePool.total_out.Goals as goal
 
