@@ -1,7 +1,6 @@
 -- What is so where no refusal applies. Assumes nothing.
-use Rattle.std.proofs.Common.{◌≡◌, ℕ, ◌+◌, ◌<◌, ◌≤◌, Bool, true, false, cond, not, ◌&&◌, ltb, List, [], ◌∷◌, length, Some, None, Ok, Option, sym, refl, ap, ◌∙◌, subst, ⊎_elim, arith}
-use Rattle.law.specs.Answers.{Answers}
-use Rattle.law.specs.Calls.{Request, Ran, Called, refusal_of, run_of}
+use Rattle.std.proofs.Common.{◌≡◌, ℕ, ◌<◌, ◌≤◌, Bool, true, false, cond, not, ◌&&◌, ltb, List, [], ◌∷◌, length, Some, None, Ok, Option, sym, refl, ap, ◌∙◌, subst, ⊎_elim, arith}
+use Rattle.law.specs.Calls.{Request, Called, refusal_of, run_of}
 use Rattle.pool.specs.Ways.{Ways}
 use Rattle.rules.specs.Builds.{Build, unbegun, at, finished, running}
 use Rattle.rules.specs.Lists.{any}

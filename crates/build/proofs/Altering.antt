@@ -1,6 +1,5 @@
 -- One change of a build at work, and its record. Assumes nothing.
-use Rattle.std.proofs.Common.{◌≡◌, ℕ, ◌+◌, ◌<◌, ◌≤◌, Bool, true, false, cond, ltb, List, map, length, get_or, vec_capacity, sym, refl, ap, ◌∙◌, subst, arith, length-append}
-use lib.ListN.{length-map}
+use Rattle.std.proofs.Common.{◌≡◌, ℕ, ◌+◌, ◌<◌, ◌≤◌, Bool, true, false, cond, ltb, List, length, get_or, vec_capacity, sym, refl, ap, ◌∙◌, subst, arith}
 use Rattle.pool.specs.Ways.{Ways}
 use Rattle.rules.specs.Builds.{Build, Loss, unbegun, at, with_state, tokens_of}
 use Rattle.rules.specs.Calls.{stepped}
@@ -25,7 +24,6 @@ use Rattle.build.specs.Models.{model, in_hand}
 use Rattle.build.specs.Rooms.{room, unended, unstarted, bytes_left}
 use Rattle.build.specs.Turning.{Kept, Still}
 use Rattle.build.specs.declared.work.Work.{Work}
-use Rattle.build.proofs.Fitting.{tokens_few}
 
 -- what a node becomes by an event that its state accepts
 pub after_start : (x y z : Progress) → z ≡ accepted x events.Start → x ≡ y → y.state ≡ Waiting → z ≡ with_state y Running

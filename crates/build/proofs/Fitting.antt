@@ -1,20 +1,18 @@
 -- What a build at work keeps, through each change of a node. Assumes nothing.
-use Rattle.std.proofs.Common.{◌≡◌, ℕ, zero, suc, ◌+◌, ◌-◌, ◌*◌, ◌<◌, ◌≤◌, Bool, true, false, cond, eqb, List, [], ◌∷◌, ◌++◌, map, reverse, length, get_or, set, sym, refl, ap, ◌∙◌, subst, ⊎_elim, arith, length-append, length-set}
+use Rattle.std.proofs.Common.{◌≡◌, ℕ, zero, suc, ◌+◌, ◌-◌, ◌*◌, ◌<◌, ◌≤◌, Bool, true, false, eqb, List, [], ◌∷◌, map, length, get_or, set, sym, refl, ap, ◌∙◌, subst, ⊎_elim, arith, length-set}
 use lib.ListN.{length-map}
 use Rattle.rules.specs.Builds.{Build, Held, Loss, unbegun, at, with_node, with_state, with_tokens, in_state, tokens_of}
-use Rattle.rules.specs.Calls.{stepped, stop}
-use Rattle.rules.specs.Ending.{marked, noted_loss, goes_back, keep_held}
-use Rattle.rules.specs.Lists.{those, put_if, if_so}
-use Rattle.rules.specs.Plans.{Plan, is_make}
+use Rattle.rules.specs.Calls.{stepped}
+use Rattle.rules.specs.Lists.{those, put_if}
+use Rattle.rules.specs.Plans.{is_make}
 use Rattle.rules.specs.declared.progress.Progress.{Progress}
 use Rattle.rules.specs.declared.progress.State.{State}
 use Rattle.rules.specs.declared.progress.State.TheVariants.{Waiting, Running, Good, Failed}
-use Rattle.rules.proofs.Telling.{set_keeps}
 use Rattle.std.proofs.lemmas.List.{length-reverse, get_or-set_same, get_or-set_other}
 use Rattle.std.proofs.lemmas.Bool.{cases_eq}
 use Rattle.build.specs.Fits.{StepsLeft, FitsBut, Fits}
 use Rattle.build.specs.Lost.{Room}
-use Rattle.build.specs.Rooms.{sum_from, unstarted, unended, to_start, to_end, bytes_left, node_room, room}
+use Rattle.build.specs.Rooms.{unstarted, unended, to_start, to_end, bytes_left, node_room, room}
 use Rattle.build.proofs.Sums.{sum_set, sum_point}
 
 -- a new entry that has no more in one respect

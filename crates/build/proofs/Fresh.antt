@@ -1,14 +1,14 @@
 -- A build that has not begun: it fits its memory, and its room. Assumes nothing.
-use Rattle.std.proofs.Common.{◌≡◌, ℕ, zero, suc, ◌+◌, ◌-◌, ◌*◌, ◌<◌, ◌≤◌, Bool, true, false, cond, ◌&&◌, eqb, ltb, leb, List, [], ◌∷◌, ◌++◌, length, get_or, take, replicate, Some, None, Option, sym, refl, ap, ◌∙◌, subst, arith}
+use Rattle.std.proofs.Common.{◌≡◌, ℕ, zero, suc, ◌+◌, ◌-◌, ◌*◌, ◌<◌, ◌≤◌, Bool, true, false, cond, ◌&&◌, eqb, ltb, leb, List, [], ◌∷◌, ◌++◌, length, get_or, take, replicate, Some, None, Option, sym, refl, ap, ◌∙◌, arith}
 use lib.ListN.{length-replicate}
 use Rattle.std.proofs.lemmas.List.{take_all}
 use Rattle.pool.specs.Meaning.{sum_below, total as all_bytes}
-use Rattle.rules.specs.Builds.{Build, unbegun, at, begun_on}
-use Rattle.rules.specs.Plans.{Plan, plan_of, is_make, needed}
+use Rattle.rules.specs.Builds.{unbegun, at, begun_on}
+use Rattle.rules.specs.Plans.{Plan, plan_of, needed}
 use Rattle.rules.specs.Refusing.{open_refusal}
 use Rattle.rules.specs.declared.progress.Progress.{Progress}
 use Rattle.std.proofs.lemmas.Bool.{and_parts, false≢true, leb-true, ltb-false}
-use Rattle.tree.specs.Kept.{Sized, steps_fit}
+use Rattle.tree.specs.Kept.{steps_fit}
 use Rattle.tree.specs.Nodes.{makes, total}
 use Rattle.tree.specs.Nodes as nodes
 use Rattle.tree.specs.Questions.{nodes_of, count_of}
@@ -16,7 +16,7 @@ use Rattle.tree.specs.declared.node.Node.{Node}
 use Rattle.tree.specs.declared.tree.Tree.{Tree}
 use Rattle.build.specs.Fits.{Fits}
 use Rattle.build.specs.Lost.{Room}
-use Rattle.build.specs.Rooms.{sum_from, unstarted, unended, to_start, to_end, bytes_left, node_room, room}
+use Rattle.build.specs.Rooms.{sum_from, unstarted, unended, bytes_left, room}
 
 fresh_at : (k n : ℕ) → get_or (replicate k unbegun) n unbegun ≡ unbegun
 fresh_at zero n = refl

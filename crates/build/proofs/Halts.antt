@@ -1,5 +1,5 @@
 -- What a halt leaves to do, turn by turn. Assumes nothing.
-use Rattle.std.proofs.Common.{◌≡◌, ℕ, zero, suc, ◌+◌, ◌-◌, ◌<◌, ◌≤◌, Bool, true, false, not, ◌&&◌, eqb, List, [], ◌∷◌, ◌++◌, length, get_or, set, sym, refl, ap, ◌∙◌, subst, ⊎_elim, arith, length-set}
+use Rattle.std.proofs.Common.{◌≡◌, ℕ, zero, suc, ◌+◌, ◌-◌, ◌<◌, ◌≤◌, Bool, true, false, not, ◌&&◌, eqb, List, [], ◌∷◌, ◌++◌, length, sym, refl, ap, ◌∙◌, subst, ⊎_elim, arith}
 use native.Mathlib.Nat.{sub-zero}
 use Rattle.law.proofs.Bounds.{child_ended, top_ended}
 use Rattle.law.proofs.Moves.{after_child}
@@ -16,7 +16,6 @@ use Rattle.rules.specs.Lists.{numbers, those, put_if}
 use Rattle.rules.specs.Plans.{Plan, is_make, all_makes}
 use Rattle.rules.specs.Settling.{Store, Run}
 use Rattle.rules.specs.Words.{is_ended}
-use Rattle.rules.specs.declared.progress.Progress.{Progress}
 use Rattle.rules.specs.declared.progress.State.{State}
 use Rattle.rules.specs.declared.progress.State.TheVariants.{Failed}
 use Rattle.rules.proofs.Backs.{make_ended, stop_plan}

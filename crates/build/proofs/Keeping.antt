@@ -1,5 +1,5 @@
 -- What every build keeps, as facts and as one statement. Assumes nothing.
-use Rattle.std.proofs.Common.{◌≡◌, ℕ, ◌<◌, Bool, true, false, sym, refl, ap, ◌∙◌, subst, inl, arith}
+use Rattle.std.proofs.Common.{◌≡◌, ℕ, ◌<◌, true, false, refl, ap, inl, arith}
 use Rattle.build.specs.Fits.{Fit}
 use Rattle.build.specs.Keeps.{Housed, Numbered, Lives, Paid, Works, is_good, AllGood, Blamed, Goes_on, AllDone, Idles, Untouched, Unstopped, StoppedWhy, Roomy}
 use Rattle.build.specs.Models.{model, status}
@@ -8,7 +8,7 @@ use Rattle.build.specs.declared.state.Build.{Build as BuildOf}
 use Rattle.build.specs.declared.work.Work.{Work}
 use Rattle.law.proofs.Planning.{trees_planned}
 use Rattle.law.specs.Sound.{entry, state_of, Sound}
-use Rattle.rules.specs.Builds.{is_waiting, is_running, at}
+use Rattle.rules.specs.Builds.{is_waiting, is_running}
 use Rattle.rules.specs.Plans.{is_make}
 use Rattle.rules.specs.declared.progress.State.{State}
 use Rattle.rules.specs.declared.progress.State.TheVariants.{Waiting, Running, Good, Failed}

@@ -1,14 +1,13 @@
 -- Parts of a call that follow one another. Assumes nothing.
-use Rattle.std.proofs.Common.{◌≡◌, ℕ, ◌≤◌, List, [], ◌∷◌, ◌++◌, reverse, length, sym, refl, ap, ◌∙◌, subst, append_assoc, append-nil}
-use Rattle.law.specs.Answers.{Answers, unasked}
-use Rattle.law.specs.Calls.{Status, Ran}
+use Rattle.std.proofs.Common.{◌≡◌, ℕ, ◌≤◌, List, [], ◌++◌, reverse, length, sym, refl, ap, ◌∙◌, subst, append_assoc, append-nil}
+use Rattle.law.specs.Answers.{Answers}
+use Rattle.law.specs.Calls.{Ran}
 use Rattle.pool.specs.Chain.{Op, Did, Chain}
 use Rattle.pool.specs.Ways.{Ways}
 use Rattle.pool.proofs.Chains.{chain_append}
-use Rattle.rules.specs.Builds.{Build}
 use Rattle.rules.specs.Settling.{Run}
 use Rattle.schedule.specs.Buffers.{Wrote}
-use Rattle.schedule.specs.Records.{bytes, encoded}
+use Rattle.schedule.specs.Records.{encoded}
 use Rattle.schedule.specs.declared.record.Record.{Record}
 use Rattle.schedule.proofs.Buffers.{wrote_none, wrote_both}
 use Rattle.schedule.proofs.Encodings.{encoded_append}

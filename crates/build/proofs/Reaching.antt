@@ -1,15 +1,14 @@
 -- A sound build has room for all that it may still write. Assumes nothing.
-use Rattle.std.proofs.Common.{◌≡◌, ℕ, zero, suc, ◌+◌, ◌-◌, ◌*◌, ◌<◌, ◌≤◌, cond, List, [], ◌∷◌, length, get_or, sym, refl, ap, ◌∙◌, subst, add-zero, add_assoc, zero-add, add-one, arith}
+use Rattle.std.proofs.Common.{◌≡◌, ℕ, zero, suc, ◌+◌, ◌-◌, ◌*◌, ◌≤◌, cond, List, [], ◌∷◌, length, sym, refl, ap, ◌∙◌, subst, add-zero, zero-add, add-one, arith}
 use Rattle.build.specs.Changes.{reach}
 use Rattle.build.specs.Models.{model, status}
-use Rattle.build.specs.Rooms.{sum_from, unended, bytes_left, node_room, room}
+use Rattle.build.specs.Rooms.{sum_from, unended, bytes_left, node_room}
 use Rattle.build.specs.declared.work.Work.{Work}
 use Rattle.law.proofs.Sums.{sum_first, sum_none, sum_same, sum_both, sum_within}
 use Rattle.law.specs.Sound.{state_of, entry, left_of, bytes_of, steps_left, Sound}
 use Rattle.law.specs.Sound as law
 use Rattle.pool.specs.Meaning.{sum_below}
-use Rattle.rules.specs.Builds.{unbegun}
-use Rattle.rules.specs.Plans.{Plan, needed}
+use Rattle.rules.specs.Plans.{needed}
 use Rattle.rules.specs.declared.progress.Progress.{Progress}
 use Rattle.rules.specs.declared.progress.State.{State}
 use Rattle.rules.specs.declared.progress.State.TheVariants.{Waiting, Running, Good, Failed}

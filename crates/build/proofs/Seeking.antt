@@ -1,5 +1,5 @@
 -- Searches along the numbers of the nodes, by what is left of them. Assumes nothing.
-use Rattle.std.proofs.Common.{◌≡◌, ℕ, zero, suc, ◌+◌, ◌-◌, ◌<◌, ◌≤◌, Bool, true, false, cond, not, ◌&&◌, eqb, List, [], ◌∷◌, length, Some, None, Option, sym, refl, ap, ◌∙◌, arith}
+use Rattle.std.proofs.Common.{◌≡◌, ℕ, suc, ◌+◌, ◌-◌, ◌<◌, ◌≤◌, Bool, true, false, cond, ◌&&◌, eqb, List, [], ◌∷◌, length, Some, None, Option, sym, refl, ap, ◌∙◌, arith}
 use Rattle.rules.specs.Builds.{Build, at}
 use Rattle.rules.specs.Lists.{numbers, those, put_if, any, first_of, or_else, when}
 use Rattle.rules.specs.Startable.{look, search_children}

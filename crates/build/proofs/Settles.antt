@@ -1,9 +1,8 @@
 -- One start after the other is settling. Assumes nothing.
-use Rattle.std.proofs.Common.{◌≡◌, ℕ, zero, suc, ◌+◌, ◌-◌, ◌<◌, ◌≤◌, true, false, List, [], ◌∷◌, length, Some, None, Option, sym, refl, ap, ◌∙◌, subst, arith}
+use Rattle.std.proofs.Common.{◌≡◌, ℕ, zero, suc, ◌+◌, ◌<◌, ◌≤◌, true, List, [], ◌∷◌, length, Some, None, sym, refl, ap, ◌∙◌, arith}
 use Rattle.law.specs.Answers.{Answers, answering}
-use Rattle.law.specs.Calls.{Status}
 use Rattle.pool.specs.Chain.{took_none, took}
-use Rattle.pool.specs.Meaning.{Taken, only}
+use Rattle.pool.specs.Meaning.{Taken}
 use Rattle.pool.specs.Ways.{Ways}
 use Rattle.rules.specs.Builds.{Build, unbegun, at, is_waiting, in_state, with_state, with_tokens}
 use Rattle.rules.specs.Settling.{Run, next_in_slot, next_with_token, try_slot, try_token, settle_by, settle}

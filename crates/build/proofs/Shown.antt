@@ -1,9 +1,8 @@
 -- Tokens and losses, as the rules have them. Assumes nothing.
-use Rattle.std.proofs.Common.{◌≡◌, ℕ, suc, ◌+◌, ◌-◌, ◌<◌, ◌≤◌, min, Bool, true, false, eqb, List, [], ◌∷◌, ◌++◌, map, reverse, length, get_or, take, drop, sym, refl, ap, ◌∙◌, ⊎_elim, arith}
+use Rattle.std.proofs.Common.{◌≡◌, ℕ, suc, ◌-◌, ◌<◌, ◌≤◌, min, eqb, List, [], ◌∷◌, ◌++◌, map, reverse, length, get_or, take, drop, sym, refl, ap, ◌∙◌, ⊎_elim, arith}
 use Rattle.std.proofs.Math.Seq.{drop-append_seam, take-append_seam}
 use Rattle.std.proofs.lemmas.Bool.{cases_lt, eq-eqb, ne_eqb}
 use Rattle.std.proofs.lemmas.List.{drop_all, take_all, take-take, get_or-map, length-map, length-reverse, length-take, reverse-append}
-use Rattle.rules.specs.Builds.{Held, Loss}
 use Rattle.rules.specs.Faults.{tokens_at}
 use Rattle.rules.specs.Lists.{if_so}
 use Rattle.build.specs.Lost.{losses_by, noted_losses}

@@ -1,9 +1,9 @@
 -- A step of a job, and other records, as parts of a run. Assumes nothing.
-use Rattle.std.proofs.Common.{◌≡◌, ℕ, suc, ◌≤◌, Bool, true, false, eqb, List, [], ◌∷◌, length, sym, refl, ap, ◌∙◌, subst, append-nil}
+use Rattle.std.proofs.Common.{◌≡◌, ℕ, eqb, List, [], ◌∷◌, sym, refl, ap, ◌∙◌, subst, append-nil}
 use Rattle.law.specs.Answers.{Answers, answering}
 use Rattle.pool.specs.Ways.{Ways}
-use Rattle.rules.specs.Builds.{Build, at, with_node}
-use Rattle.rules.specs.Calls.{noted, on_build, stepped, last_step}
+use Rattle.rules.specs.Builds.{Build, at}
+use Rattle.rules.specs.Calls.{noted, last_step}
 use Rattle.rules.specs.Ending.{end_node}
 use Rattle.rules.specs.Lists.{if_so}
 use Rattle.rules.specs.Settling.{Run}
@@ -14,11 +14,11 @@ use Rattle.schedule.specs.declared.record.Record.{Record}
 use Rattle.schedule.specs.declared.record.Record.TheVariants.{Step}
 use Rattle.std.proofs.lemmas.Bool.{eq-eqb, ne_eqb}
 use Rattle.build.specs.Changes.{Noted, here}
-use Rattle.build.specs.Leads.{Point, on, Leads}
+use Rattle.build.specs.Leads.{on, Leads}
 use Rattle.build.specs.Models.{model}
 use Rattle.build.specs.Working.{worked, stepped_build}
 use Rattle.build.specs.declared.work.Work.{Work}
-use Rattle.build.proofs.Leading.{leads_then, leads_as}
+use Rattle.build.proofs.Leading.{leads_as}
 use Rattle.build.proofs.Settles.{point}
 
 -- a record, and no more

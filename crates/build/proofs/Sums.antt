@@ -1,5 +1,5 @@
 -- Sums over the nodes, when one node changes. Assumes nothing.
-use Rattle.std.proofs.Common.{◌≡◌, ℕ, zero, suc, ◌+◌, ◌<◌, ◌≤◌, List, [], ◌∷◌, length, get_or, set, sym, refl, ap, ◌∙◌, subst, arith}
+use Rattle.std.proofs.Common.{◌≡◌, ℕ, zero, suc, ◌+◌, ◌<◌, ◌≤◌, List, [], ◌∷◌, length, get_or, set, ap, subst, arith}
 use Rattle.rules.specs.declared.progress.Progress.{Progress}
 use Rattle.build.specs.Rooms.{sum_from}
 

@@ -1,5 +1,5 @@
 -- The way up after an end. Assumes nothing.
-use Rattle.std.proofs.Common.{◌≡◌, ℕ, zero, suc, ◌+◌, ◌<◌, ◌≤◌, Bool, true, false, cond, eqb, List, [], ◌∷◌, ◌++◌, length, Some, None, Option, sym, refl, ap, ◌∙◌, subst, append-nil, arith}
+use Rattle.std.proofs.Common.{◌≡◌, ℕ, zero, suc, ◌<◌, ◌≤◌, Bool, true, false, cond, eqb, List, [], ◌∷◌, ◌++◌, length, Some, None, Option, sym, refl, ap, ◌∙◌, subst, append-nil, arith}
 use Rattle.law.specs.Answers.{Answers, answering}
 use Rattle.pool.specs.Chain.{Op}
 use Rattle.pool.specs.Ways.{Ways}
@@ -16,7 +16,7 @@ use Rattle.rules.specs.declared.progress.State.{State}
 use Rattle.rules.specs.declared.progress.State.TheVariants.{Waiting, Running, Good, Failed}
 use Rattle.rules.specs.Builds.{Held}
 use Rattle.schedule.specs.Buffers.{Wrote}
-use Rattle.schedule.specs.Records.{bytes, encoded}
+use Rattle.schedule.specs.Records.{bytes}
 use Rattle.schedule.specs.declared.record.Record.{Record}
 use Rattle.schedule.specs.declared.record.Record.TheVariants.{Finished}
 use Rattle.schedule.proofs.Buffers.{wrote_none}

@@ -1,6 +1,6 @@
 -- What every build keeps between two calls, fact by fact: it fits its memory, and it is sound.
 use Rattle.std.specs.Prelude.{◌≡◌, ℕ, ◌+◌, ◌-◌, ◌*◌, ◌<◌, ◌≤◌, Bool, true, false, length, vec_len, vec_capacity}
-use Rattle.build.specs.Models.{model, status}
+use Rattle.build.specs.Models.{model}
 use Rattle.build.specs.Rooms.{to_start, to_end}
 use Rattle.build.specs.declared.work.Work.{Work}
 use Rattle.law.specs.Sound.{entry, state_of, is_failed, children_running, tokens_with, BelowTop, Busy, bytes_left}

@@ -1,5 +1,5 @@
 -- What an accepted call has found: no refusal applied. Assumes nothing.
-use Rattle.std.proofs.Common.{◌≡◌, ℕ, zero, suc, ◌<◌, ◌≤◌, Bool, true, false, cond, not, ◌&&◌, ltb, List, [], ◌∷◌, length, get_or, Some, None, Option, sym, refl, ap, ◌∙◌, arith}
+use Rattle.std.proofs.Common.{◌≡◌, ℕ, zero, suc, ◌<◌, ◌≤◌, Bool, true, false, cond, not, ◌&&◌, ltb, List, [], ◌∷◌, length, get_or, Some, None, Option, sym, refl, ◌∙◌, arith}
 use Rattle.law.proofs.Carried.{RunningJob}
 use Rattle.law.proofs.Ends.{Shaped}
 use Rattle.rules.specs.Builds.{Build, unbegun, is_running, running, finished}

@@ -1,20 +1,18 @@
 -- From the tokens in the makes' hands to what the records say that they hold. Assumes nothing.
-use Rattle.std.proofs.Common.{◌≡◌, ℕ, zero, suc, ◌+◌, ◌-◌, ◌<◌, ◌≤◌, Bool, true, false, cond, not, ◌&&◌, eqb, List, [], ◌∷◌, length, Some, None, Option, sym, refl, ap, ◌∙◌, subst, ⊎_elim, arith}
+use Rattle.std.proofs.Common.{◌≡◌, ℕ, zero, suc, ◌+◌, ◌<◌, ◌≤◌, Bool, true, false, cond, not, ◌&&◌, eqb, List, [], ◌∷◌, length, Some, None, sym, refl, ap, ◌∙◌, subst, ⊎_elim, arith}
 use Rattle.law.proofs.Conserving.{in_hand}
-use Rattle.law.proofs.Counting.{jobs_on, one_more, tokens_counted}
-use Rattle.law.proofs.Ends.{Shaped}
+use Rattle.law.proofs.Counting.{jobs_on, one_more}
 use Rattle.law.proofs.Outcomes.{Books}
-use Rattle.law.proofs.Running.{one_true, one_false, none_counted}
+use Rattle.law.proofs.Running.{one_true, none_counted}
 use Rattle.law.proofs.Shapes.{rooted}
 use Rattle.law.proofs.Sums.{sum_same, sum_none, sum_both, sum_one}
-use Rattle.law.proofs.Telling.{Told, is_held, is_good, verdict}
-use Rattle.law.specs.Counts.{one_if, how_many, takes, returns, holds, makes_hold, all_held, runs, jobs_running, finish_of}
+use Rattle.law.proofs.Telling.{is_held, verdict}
+use Rattle.law.specs.Counts.{one_if, how_many, holds, makes_hold, all_held, runs, jobs_running, finish_of}
 use Rattle.law.specs.Sound.{entry, state_of, tokens_with, children_running, BelowTop, Shape}
 use Rattle.pool.specs.Meaning.{sum_below, total}
 use Rattle.rules.specs.Builds.{Build, is_running, is_waiting}
 use Rattle.rules.specs.Builds.{Held}
 use Rattle.rules.specs.Plans.{Plan, is_make}
-use Rattle.rules.specs.declared.progress.Progress.{Progress}
 use Rattle.rules.specs.declared.progress.State.{State}
 use Rattle.rules.specs.declared.progress.State.TheVariants.{Waiting, Running, Good, Failed}
 use Rattle.schedule.specs.declared.record.Record.{Record}

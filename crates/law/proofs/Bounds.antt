@@ -1,21 +1,21 @@
 -- What may still be done and written falls with every move. Assumes nothing.
-use Rattle.std.proofs.Common.{◌≡◌, ℕ, zero, suc, ◌+◌, ◌-◌, ◌*◌, ◌<◌, ◌≤◌, Bool, true, false, cond, eqb, List, [], ◌∷◌, ◌++◌, reverse, length, get_or, set, Some, None, Option, sym, refl, ap, ◌∙◌, subst, arith, length-append, length-set, get_or-set_same}
+use Rattle.std.proofs.Common.{◌≡◌, ℕ, ◌+◌, ◌-◌, ◌*◌, ◌<◌, ◌≤◌, true, false, cond, List, [], ◌∷◌, ◌++◌, reverse, length, set, Some, None, Option, sym, refl, ap, ◌∙◌, subst, arith, length-append, get_or-set_same}
 use mathlib.Core.List.{reverse-cons}
-use Rattle.law.proofs.Moves.{Keeping, Moves, moves_keep, after_child, with_pool}
+use Rattle.law.proofs.Moves.{Keeping, after_child}
 use Rattle.law.proofs.Settles.{startable_child}
-use Rattle.law.proofs.Shapes.{Due, Stopped}
+use Rattle.law.proofs.Shapes.{Stopped}
 use Rattle.law.proofs.Sums.{sum_change, sum_same}
 use Rattle.law.proofs.Views.{Turned, turned, turned_marked, turned_here, turned_there, set_field}
 use Rattle.law.specs.Sound.{entry, state_of, left_of, steps_left, bytes_of, unended}
 use Rattle.pool.specs.Meaning.{sum_below}
-use Rattle.rules.specs.Builds.{Build, unbegun, at, is_running, is_waiting, with_state}
+use Rattle.rules.specs.Builds.{unbegun, at, is_running, is_waiting, with_state}
 use Rattle.rules.specs.Builds.{Held}
 use Rattle.rules.specs.Calls.{stepped}
-use Rattle.rules.specs.Ending.{goes_back, put_found, put_one, mark, ends_so, finish, make_end}
+use Rattle.rules.specs.Ending.{put_found, mark, ends_so, finish}
 use Rattle.rules.specs.Plans.{Plan, needed}
 use Rattle.rules.specs.Settling.{Store, Run, start_in_slot, start_with_token}
 use Rattle.rules.specs.Settling.{Start}
-use Rattle.rules.specs.Words.{Startable, InSlot, WithToken, is_ended}
+use Rattle.rules.specs.Words.{Startable, is_ended}
 use Rattle.rules.specs.declared.progress.Progress.{Progress}
 use Rattle.rules.specs.declared.progress.State.{State}
 use Rattle.rules.specs.declared.progress.State.TheVariants.{Waiting, Running, Good, Failed}
@@ -23,7 +23,7 @@ use Rattle.rules.proofs.Telling.{set_keeps}
 use Rattle.schedule.proofs.Encodings.{encoded_append}
 use Rattle.schedule.specs.Records.{bytes, size, encoded}
 use Rattle.schedule.specs.declared.record.Record.{Record}
-use Rattle.std.proofs.lemmas.Bool.{eq-eqb, ne_eqb, false≢true, true≢false}
+use Rattle.std.proofs.lemmas.Bool.{ne_eqb, false≢true, true≢false}
 
 -- the bytes of records
 abbrev pub sizes : List Record → ℕ

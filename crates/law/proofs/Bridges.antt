@@ -1,16 +1,16 @@
 -- What the rules ask of a make's children, as counts. Assumes nothing.
-use Rattle.std.proofs.Common.{◌≡◌, ℕ, zero, suc, ◌+◌, ◌-◌, ◌<◌, ◌≤◌, Bool, true, false, cond, not, ◌&&◌, eqb, ◌⊎◌, List, [], ◌∷◌, Some, None, Option, sym, refl, ap, ◌∙◌, subst, inl, inr, ⊎_elim, arith}
-use Rattle.law.proofs.Running.{runs_counted, none_runs, some_runs, none_counted}
-use Rattle.law.specs.Sound.{entry, state_of, is_child, children_running, BelowTop, HasWaiting, Planned, Shape, Busy}
+use Rattle.std.proofs.Common.{◌≡◌, ℕ, zero, suc, ◌+◌, ◌-◌, ◌<◌, ◌≤◌, Bool, true, false, cond, not, eqb, List, [], ◌∷◌, Some, sym, refl, ap, ◌∙◌, subst, ⊎_elim, arith}
+use Rattle.law.proofs.Running.{runs_counted, none_counted}
+use Rattle.law.specs.Sound.{children_running, HasWaiting, Shape, Busy}
 use Rattle.rules.specs.Builds.{Build, at, is_running, is_waiting, running, waiting, has_running, has_waiting}
 use Rattle.rules.specs.Lists.{numbers, those, put_if, any, when}
-use Rattle.rules.specs.Plans.{Plan, is_make, children}
+use Rattle.rules.specs.Plans.{children}
 use Rattle.rules.specs.Settled.{SlotsUsed}
 use Rattle.rules.specs.Startable.{startable, search_children, look}
 use Rattle.rules.specs.declared.progress.State.{State}
 use Rattle.rules.specs.declared.progress.State.TheVariants.{Waiting, Running, Good, Failed}
 use Rattle.rules.proofs.Searches.{served}
-use Rattle.std.proofs.lemmas.Bool.{cases_Bool, eqb-true, eq-eqb, true≢false, false≢true, both_ways, and_from, not_from_false}
+use Rattle.std.proofs.lemmas.Bool.{cases_Bool, eqb-true, eq-eqb, true≢false, false≢true, and_from, not_from_false}
 
 -- whether one passes, at the first
 any_first : (p : ℕ → Bool) (x : ℕ) (xs : List ℕ) (t : Bool) → p x ≡ t → any p (x ∷ xs) ≡ cond t true (any p xs)

@@ -1,25 +1,22 @@
 -- Each call of a build is its own first part and then a row of moves; the build comes to rest in its shape. Assumes nothing.
-use Rattle.std.proofs.Common.{◌≡◌, ℕ, zero, suc, ◌+◌, ◌-◌, ◌<◌, ◌≤◌, Bool, true, false, not, ◌&&◌, eqb, ◌⊎◌, List, [], ◌∷◌, length, get_or, set, replicate, sym, refl, ap, ◌∙◌, subst, inl, inr, ⊎_elim, arith, length-set, get_or-set_other, get_or-set_same}
+use Rattle.std.proofs.Common.{◌≡◌, ℕ, zero, suc, ◌+◌, ◌<◌, ◌≤◌, Bool, true, false, not, ◌&&◌, eqb, ◌⊎◌, List, [], ◌∷◌, length, get_or, set, replicate, sym, refl, ap, ◌∙◌, subst, inl, inr, ⊎_elim, arith, length-set, get_or-set_other, get_or-set_same}
 use lib.ListN.{length-replicate}
 use Rattle.law.proofs.Bridges.{busy_now}
 use Rattle.law.proofs.Counting.{jobs_on, one_more}
 use Rattle.law.proofs.Ends.{Shaped, Climbed, climbed}
 use Rattle.law.proofs.Moves.{Moves, after_child, both_moves, still}
 use Rattle.law.proofs.Running.{none_counted, one_false}
-use Rattle.law.proofs.Settles.{Rested, Stands, settle_rests}
+use Rattle.law.proofs.Settles.{Stands, settle_rests}
 use Rattle.law.proofs.Shapes.{Due, Stopped, shape_open, shape_step, shape_stop, shape_calm, pend, unpend, rooted}
 use Rattle.law.proofs.Sums.{sum_none}
-use Rattle.law.proofs.Views.{set_field}
-use Rattle.law.specs.Counts.{one_if}
-use Rattle.law.specs.Sound.{entry, state_of, is_failed, children_running, BelowTop, Planned, Shape, Busy}
-use Rattle.rules.specs.Builds.{Build, unbegun, at, is_running, running, running_jobs, with_node, begun_on, finished}
+use Rattle.law.specs.Sound.{state_of, is_failed, children_running, Planned, Shape, Busy}
+use Rattle.rules.specs.Builds.{Build, unbegun, at, is_running, running, with_node}
 use Rattle.rules.specs.Calls.{noted, on_build, opening, open_run, last_step, stepped, step_run, kill_run, poll_run, stop, stop_all, end_all, halt_run}
 use Rattle.rules.specs.Ending.{end_node}
 use Rattle.rules.specs.Lists.{if_so, numbers, those, put_if}
 use Rattle.rules.specs.Plans.{Plan, is_make, all_makes}
 use Rattle.rules.specs.Settled.{NothingStarts}
 use Rattle.rules.specs.Settling.{Store, Run, settle}
-use Rattle.rules.specs.Words.{is_ended}
 use Rattle.rules.specs.declared.progress.Progress.{Progress}
 use Rattle.rules.specs.declared.progress.State.{State}
 use Rattle.rules.specs.declared.progress.State.TheVariants.{Good, Failed}
@@ -28,8 +25,7 @@ use Rattle.rules.proofs.Held.{if_holds}
 use Rattle.rules.proofs.Telling.{set_keeps}
 use Rattle.schedule.specs.declared.cause.Cause.TheVariants as causes
 use Rattle.schedule.specs.declared.record.Record.TheVariants.{Step, Kill, Halt}
-use Rattle.std.proofs.lemmas.Bool.{cases_eq, cases_Bool, and_parts, and_from, eqb-true, eqb-false, eq-eqb, ne_eqb, true≢false, false≢true, both_ways, not-true, not_from_false}
-use Rattle.tree.specs.declared.node.Kind.{Kind}
+use Rattle.std.proofs.lemmas.Bool.{cases_eq, cases_Bool, and_parts, and_from, eqb-true, eqb-false, true≢false, false≢true, both_ways, not-true, not_from_false}
 
 -- a running job of the tree
 pub record RunningJob (b : Build) (n : ℕ) : Type 0 where

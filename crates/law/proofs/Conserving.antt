@@ -1,7 +1,7 @@
 -- What a run takes from the pool is in the makes' hands, byte by byte. Assumes the laws of the pool.
-use Rattle.std.proofs.Common.{◌≡◌, ℕ, ◌+◌, ◌<◌, ◌≤◌, Bool, true, false, eqb, List, [], ◌∷◌, ◌++◌, reverse, Some, None, Option, sym, refl, ap, ◌∙◌, subst, arith}
+use Rattle.std.proofs.Common.{◌≡◌, ℕ, ◌+◌, ◌≤◌, eqb, List, [], ◌∷◌, reverse, Some, None, Option, sym, refl, ap, ◌∙◌, subst, arith}
 use mathlib.Core.List.{reverse-cons}
-use Rattle.law.proofs.Moves.{Keeping, after_child, with_pool}
+use Rattle.law.proofs.Moves.{Keeping}
 use Rattle.law.proofs.Running.{one_false}
 use Rattle.law.proofs.Tokens.{of_make, goes_some}
 use Rattle.law.specs.Answers.{Answers, next_answer, answering}
@@ -9,11 +9,10 @@ use Rattle.law.specs.Counts.{one_if, how_many}
 use Rattle.law.specs.Lending.{Lends}
 use Rattle.pool.proofs.Chains.{chain_split}
 use Rattle.pool.specs.Chain.{Op, took_none, took, put_back, Did, Chain}
-use Rattle.pool.specs.Meaning.{only}
 use Rattle.pool.specs.Ways.{Ways}
 use Rattle.rules.specs.Builds.{Held}
-use Rattle.rules.specs.Ending.{goes_back, put_found, put_one, mark, ends_so, finish}
-use Rattle.rules.specs.Settling.{Run, start_with_token}
+use Rattle.rules.specs.Ending.{goes_back, put_found, mark, ends_so}
+use Rattle.rules.specs.Settling.{Run}
 use Rattle.rules.specs.declared.progress.State.{State}
 use Rattle.rules.specs.declared.progress.State.TheVariants.{Waiting, Running, Good, Failed}
 use Rattle.std.proofs.lemmas.Bool.{ne_eqb}

@@ -1,17 +1,16 @@
 -- Where every live make has a running child, one job more runs than tokens are in hand. Assumes nothing.
-use Rattle.std.proofs.Common.{◌≡◌, ℕ, zero, suc, ◌+◌, ◌-◌, ◌<◌, ◌≤◌, Bool, true, false, cond, not, ◌&&◌, eqb, ◌⊎◌, List, [], ◌∷◌, length, sym, refl, ap, ◌∙◌, subst, inl, inr, ⊎_elim, zero-add, arith}
-use Rattle.law.proofs.Running.{one_true, one_false, child_eqb, runs_counted, none_runs, none_counted}
+use Rattle.std.proofs.Common.{◌≡◌, ℕ, zero, suc, ◌+◌, ◌<◌, ◌≤◌, Bool, true, false, cond, not, ◌&&◌, eqb, List, [], ◌∷◌, length, sym, refl, ap, ◌∙◌, ⊎_elim, zero-add, arith}
+use Rattle.law.proofs.Running.{one_true, one_false, child_eqb, none_counted}
 use Rattle.law.proofs.Sums.{sum_same, sum_none, sum_both, sum_swap, sum_one, sum_change, sum_first}
-use Rattle.law.specs.Counts.{one_if, how_many}
-use Rattle.law.specs.Sound.{entry, state_of, is_child, children_running, tokens_with, BelowTop, Planned, Shape, Busy}
+use Rattle.law.specs.Counts.{one_if}
+use Rattle.law.specs.Sound.{state_of, is_child, children_running, tokens_with, Planned, Shape, Busy}
 use Rattle.pool.specs.Meaning.{sum_below}
 use Rattle.rules.specs.Builds.{Build, is_running, running_jobs, running}
 use Rattle.rules.specs.Builds.{Held}
 use Rattle.rules.specs.Lists.{numbers, those, put_if}
 use Rattle.rules.specs.Plans.{Plan, is_make}
 use Rattle.rules.specs.declared.progress.Progress.{Progress}
-use Rattle.rules.specs.declared.progress.State.{State}
-use Rattle.std.proofs.lemmas.Bool.{cases_eq, cases_Bool, cases_lt, eqb-true, eq-eqb, ne_eqb, true≢false, false≢true, both_ways}
+use Rattle.std.proofs.lemmas.Bool.{cases_eq, cases_lt, eq-eqb, ne_eqb, both_ways}
 
 -- how many jobs run
 abbrev pub jobs_on : Plan → List Progress → ℕ

@@ -1,18 +1,17 @@
 -- The way up after an end is a row of moves, and keeps the shape of the build. Assumes nothing.
-use Rattle.std.proofs.Common.{◌≡◌, ℕ, zero, suc, ◌+◌, ◌-◌, ◌<◌, ◌≤◌, Bool, true, false, cond, not, ◌&&◌, ◌||◌, eqb, ◌⊎◌, List, [], ◌∷◌, length, get_or, set, Some, None, Option, sym, refl, ap, ◌∙◌, subst, inl, inr, ⊎_elim, arith, length-set, get_or-set_other, get_or-set_same}
+use Rattle.std.proofs.Common.{◌≡◌, ℕ, zero, suc, ◌-◌, ◌<◌, Bool, true, false, cond, not, ◌&&◌, ◌||◌, eqb, List, length, set, Some, None, Option, sym, refl, ap, ◌∙◌, subst, inl, inr, ⊎_elim, arith, length-set, get_or-set_other, get_or-set_same}
 use Rattle.law.proofs.Bridges.{running_some, running_none, waiting_some, waiting_none}
-use Rattle.law.proofs.Moves.{Moves, after_child, both_moves, still, child, top}
-use Rattle.law.proofs.Running.{run_wait, ended_stops, four_states, none_runs}
+use Rattle.law.proofs.Moves.{Moves, after_child, still, child, top}
+use Rattle.law.proofs.Running.{ended_stops, four_states, none_runs}
 use Rattle.law.proofs.Shapes.{Ending, Due, shape_ended, children_ended, children_topped, unpend, rooted}
-use Rattle.law.proofs.Tokens.{left, paid_back}
+use Rattle.law.proofs.Tokens.{paid_back}
 use Rattle.law.proofs.Views.{Turned, turned, turned_marked, turned_here, turned_there}
-use Rattle.law.specs.Counts.{one_if}
-use Rattle.law.specs.Sound.{entry, state_of, is_failed, children_running, tokens_with, BelowTop, HasWaiting, Shape}
-use Rattle.rules.specs.Builds.{Build, unbegun, at, is_running, is_waiting, running, has_running, has_waiting, with_state}
+use Rattle.law.specs.Sound.{entry, state_of, is_failed, children_running, Shape}
+use Rattle.rules.specs.Builds.{Build, unbegun, at, is_running, running, has_running, has_waiting, with_state}
 use Rattle.rules.specs.Builds.{Held}
-use Rattle.rules.specs.Ending.{goes_back, put_found, put_one, mark, marked, ends_so, finish, end_by, make_end, is_over}
-use Rattle.rules.specs.Lists.{if_so, is_some, or_else}
-use Rattle.rules.specs.Plans.{Plan, is_make}
+use Rattle.rules.specs.Ending.{goes_back, put_found, mark, marked, ends_so, finish, end_by, make_end, is_over}
+use Rattle.rules.specs.Lists.{is_some, or_else}
+use Rattle.rules.specs.Plans.{is_make}
 use Rattle.rules.specs.Settling.{Store, Run}
 use Rattle.rules.specs.Words.{is_ended}
 use Rattle.rules.specs.declared.progress.Progress.{Progress}

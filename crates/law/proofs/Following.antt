@@ -1,35 +1,33 @@
 -- The law, by following a trace call by call. Assumes the laws of the pool.
-use Rattle.std.proofs.Common.{◌≡◌, ℕ, zero, suc, ◌+◌, ◌-◌, ◌<◌, ◌≤◌, Bool, true, false, cond, not, ◌&&◌, eqb, ◌⊎◌, List, [], ◌∷◌, ◌++◌, reverse, length, take, drop, Some, None, Ok, Err, Option, Result, sym, refl, ap, ◌∙◌, subst, inl, inr, ⊎_elim, append-nil, arith}
+use Rattle.std.proofs.Common.{◌≡◌, ℕ, ◌+◌, ◌-◌, ◌<◌, ◌≤◌, Bool, true, not, eqb, ◌⊎◌, List, [], ◌∷◌, ◌++◌, reverse, length, take, drop, Some, None, Ok, Err, Option, Result, sym, refl, ap, ◌∙◌, subst, inl, inr, ⊎_elim, append-nil, arith}
 use mathlib.Core.List.{reverse-reverse}
-use Rattle.law.proofs.Accepting.{Accepts, accepts, job_accepts}
-use Rattle.law.proofs.Adding.{total_three, holds_is, makes_hold_is, all_held_is, jobs_running_is, top_runs, one_job_more, none_on, none_held, over_so, good_job}
+use Rattle.law.proofs.Accepting.{accepts, job_accepts}
+use Rattle.law.proofs.Adding.{total_three, makes_hold_is, top_runs, one_job_more, none_on, none_held, over_so, good_job}
 use Rattle.law.proofs.Bounds.{sizes, sizes_written, bytes_with}
-use Rattle.law.proofs.Carried.{RunningJob, Carried, open_carried, poll_carried, step_carried, kill_carried, kill_due, kill_nested, halt_carried, step_first, kill_first, halt_first, stop_view}
+use Rattle.law.proofs.Carried.{open_carried, poll_carried, step_carried, kill_carried, kill_due, kill_nested, halt_carried, stop_view}
 use Rattle.law.proofs.Conserving.{in_hand, Whole, Conserves, keeping_conserved, last_op, asked_none}
 use Rattle.law.proofs.Moves.{Moves, moves_keep}
 use Rattle.law.proofs.Outcomes.{Books, Ready, Outcome, books_of, poll_outcome, step_outcome, kill_outcome, halt_outcome, open_outcome, poll_kept, step_kept, kill_kept, halt_kept}
-use Rattle.law.proofs.Running.{one_true}
 use Rattle.law.proofs.Settles.{Stands}
 use Rattle.law.proofs.Telling.{Kept, is_good}
 use Rattle.law.specs.Answers.{Answers, answering, unasked}
-use Rattle.law.specs.Calls.{Status, Ran, Request, step, kill, poll, halt, refusal_of, run_of, Called, Opened}
-use Rattle.law.specs.Counts.{one_if, how_many, begins, ends_well, records_of, is_step_of, works, accepted, got, gave_back, tools_hold, tools_held, makes_hold}
-use Rattle.law.specs.Law.{Law, AcceptedLast, DoneOnce}
+use Rattle.law.specs.Calls.{Status, Request, step, kill, poll, halt, refusal_of, run_of, Called, Opened}
+use Rattle.law.specs.Counts.{one_if, how_many, ends_well, records_of, is_step_of, works, accepted, got, gave_back, tools_hold, makes_hold}
+use Rattle.law.specs.Law.{Law, AcceptedLast}
 use Rattle.law.specs.Lending.{Lends}
 use Rattle.law.specs.Sound.{entry, state_of, steps_left, Planned}
-use Rattle.law.specs.Traces.{Event, opened, called, loaded, obtained, released, wrote_records, Moment, just_opened, after_call, after_event, taken_up, laid_down, Trace, begin, call, load, obtain, release}
+use Rattle.law.specs.Traces.{Event, loaded, obtained, released, wrote_records, Moment, just_opened, after_call, after_event, taken_up, laid_down, Trace, begin, call, load, obtain, release}
 use Rattle.pool.specs.Chain.{took_none, Did, Chain}
-use Rattle.pool.specs.Meaning.{only, total}
+use Rattle.pool.specs.Meaning.{total}
 use Rattle.pool.specs.Ways.{Ways, Load}
 use Rattle.pool.specs.declared.refusals.Refusal.{Refusal as PoolRefusal}
-use Rattle.rules.specs.Builds.{Build, is_running, is_waiting, running}
+use Rattle.rules.specs.Builds.{Build, is_running, is_waiting}
 use Rattle.rules.specs.Builds.{Held}
 use Rattle.rules.specs.Calls.{noted, opening, open_run}
-use Rattle.rules.specs.Causes.{Job}
 use Rattle.rules.specs.Plans.{Plan, is_make, needed, all_makes}
 use Rattle.rules.specs.Settled.{NothingStarts}
 use Rattle.rules.specs.Settling.{Run}
-use Rattle.rules.specs.declared.progress.State.TheVariants.{Good, Failed}
+use Rattle.rules.specs.declared.progress.State.TheVariants.{Failed}
 use Rattle.rules.specs.declared.refusal.Refusal.{Refusal}
 use Rattle.schedule.proofs.Buffers.{wrote_between}
 use Rattle.schedule.proofs.RoundTrip.{read_back}
@@ -40,7 +38,6 @@ use Rattle.schedule.specs.declared.cause.Cause.TheVariants as causes
 use Rattle.schedule.specs.declared.record.Record.{Record}
 use Rattle.schedule.specs.declared.record.Record.TheVariants.{Kill}
 use Rattle.std.proofs.lemmas.Bool.{cases_Bool, cases_eq, both_ways}
-use Rattle.std.specs.List.{between}
 use Rattle.tool.specs.Grants.{Obtain, Release}
 use Rattle.tool.specs.declared.grants.Grant.{Grant}
 use Rattle.tool.specs.declared.grants.Unreleased.{Unreleased}

@@ -1,7 +1,7 @@
 -- The moves of a build: what the rules do, one start, answer or end at a time.
-use Rattle.std.proofs.Common.{◌≡◌, ℕ, ◌<◌, Bool, true, false, List, [], ◌∷◌, Some, None, sym, refl, ap, ◌∙◌, subst}
+use Rattle.std.proofs.Common.{◌≡◌, ℕ, ◌<◌, true, Some, None}
 use Rattle.law.proofs.Shapes.{Due}
-use Rattle.rules.specs.Builds.{Build, at}
+use Rattle.rules.specs.Builds.{at}
 use Rattle.rules.specs.Ending.{ends_so, put_one, mark, finish, make_end}
 use Rattle.rules.specs.Settled.{Settles, slot, token, no_token, nothing}
 use Rattle.rules.specs.Settling.{Store, Run, start_in_slot, start_with_token}

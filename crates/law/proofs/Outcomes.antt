@@ -1,23 +1,22 @@
 -- What each accepted call comes to: the books of the build, and what may still be done and written. Assumes nothing.
-use Rattle.std.proofs.Common.{◌≡◌, ℕ, zero, suc, ◌+◌, ◌-◌, ◌*◌, ◌<◌, ◌≤◌, Bool, true, false, cond, not, ◌&&◌, eqb, ltb, ◌⊎◌, List, [], ◌∷◌, ◌++◌, length, get_or, set, replicate, Some, None, sym, refl, ap, ◌∙◌, subst, inl, inr, ⊎_elim, append-nil, arith, length-set, get_or-set_same}
+use Rattle.std.proofs.Common.{◌≡◌, ℕ, zero, suc, ◌+◌, ◌-◌, ◌*◌, ◌<◌, ◌≤◌, Bool, true, false, cond, not, eqb, List, [], ◌∷◌, ◌++◌, length, get_or, set, replicate, sym, refl, ap, ◌∙◌, subst, ⊎_elim, append-nil, arith, length-set, get_or-set_same}
 use lib.ListN.{length-replicate}
-use Rattle.law.proofs.Bounds.{run_unended, over_ended, sizes, bytes_with, Within, within_fallen, keeping_within, child_ended, end_falls, end_uses, step_falls, stop_same, Falls}
-use Rattle.law.proofs.Carried.{RunningJob, Carried, step_first, kill_first, halt_first, open_carried, poll_carried, step_carried, kill_carried, kill_due, kill_nested, halt_carried, halt_over, stop_view}
+use Rattle.law.proofs.Bounds.{run_unended, over_ended, sizes, bytes_with, Within, keeping_within, child_ended, end_falls, end_uses, step_falls, stop_same}
+use Rattle.law.proofs.Carried.{RunningJob, step_first, kill_first, halt_first, open_carried, poll_carried, step_carried, kill_carried, kill_due, kill_nested, halt_carried, halt_over, stop_view}
 use Rattle.law.proofs.Ends.{Shaped}
 use Rattle.law.proofs.Moves.{Moves, moves_keep}
 use Rattle.law.proofs.Settles.{Stands}
 use Rattle.law.proofs.Running.{run_begun}
-use Rattle.law.proofs.Shapes.{Due, rooted}
-use Rattle.law.proofs.Sums.{sum_same, sum_none, sum_change}
+use Rattle.law.proofs.Shapes.{rooted}
+use Rattle.law.proofs.Sums.{sum_same, sum_change}
 use Rattle.law.proofs.Telling.{Told, Kept, verdict, keeping_told, told_same, told_quiet, quiet_open, quiet_step, quiet_kill, quiet_halt}
 use Rattle.law.proofs.Views.{turned, turned_here, turned_there, set_field}
-use Rattle.law.specs.Counts.{one_if, how_many, finish_of, takes, returns, begins, ends_well, runs}
-use Rattle.law.specs.Law.{OwnReturns}
+use Rattle.law.specs.Counts.{one_if, finish_of}
 use Rattle.law.specs.Sound.{entry, state_of, left_of, steps_left, bytes_of, unended, Planned, Busy}
 use Rattle.pool.specs.Meaning.{sum_below}
-use Rattle.rules.specs.Builds.{Build, unbegun, at, is_running, is_waiting, running, with_node, with_state, begun_on}
-use Rattle.rules.specs.Calls.{noted, opening, open_run, step_run, kill_run, poll_run, halt_run, stepped, bit, stop_all}
-use Rattle.rules.specs.Plans.{Plan, is_make, needed, all_makes}
+use Rattle.rules.specs.Builds.{Build, unbegun, is_running, is_waiting, running, with_state}
+use Rattle.rules.specs.Calls.{noted, opening, open_run, step_run, kill_run, poll_run, halt_run, stepped, stop_all}
+use Rattle.rules.specs.Plans.{Plan, needed, all_makes}
 use Rattle.rules.specs.Settling.{Store, Run}
 use Rattle.rules.specs.declared.progress.Progress.{Progress}
 use Rattle.rules.specs.declared.progress.State.{State}
@@ -27,7 +26,7 @@ use Rattle.rules.proofs.Telling.{set_keeps}
 use Rattle.schedule.specs.declared.cause.Cause.TheVariants as causes
 use Rattle.schedule.specs.declared.record.Record.{Record}
 use Rattle.schedule.specs.declared.record.Record.TheVariants.{Open, Step, Kill, Halt, PutBack}
-use Rattle.std.proofs.lemmas.Bool.{cases_eq, eq-eqb, ne_eqb, false≢true, true≢false}
+use Rattle.std.proofs.lemmas.Bool.{cases_eq, eq-eqb, ne_eqb}
 
 -- the build of the tree t and all records so far, the last one first, fit together
 pub record Books (t : Plan) (b : Build) (rs : List Record) : Type 0 where

@@ -1,13 +1,13 @@
 -- Every tree that can be held is as the rules rely on. Assumes nothing.
-use Rattle.std.proofs.Common.{◌≡◌, ℕ, zero, suc, ◌+◌, ◌<◌, ◌≤◌, Bool, true, false, cond, ◌&&◌, eqb, leb, List, [], ◌∷◌, length, get_or, sym, refl, ap, ◌∙◌, add-one, arith}
+use Rattle.std.proofs.Common.{◌≡◌, ◌+◌, ◌<◌, true, false, cond, ◌&&◌, eqb, leb, List, [], ◌∷◌, length, sym, ap, ◌∙◌, add-one, arith}
 use Rattle.law.proofs.Sums.{sum_first, sum_same, sum_none}
 use Rattle.law.specs.Sound.{Planned}
 use Rattle.pool.specs.Meaning.{sum_below}
 use Rattle.rules.proofs.Tales.{trees_ordered}
-use Rattle.rules.specs.Plans.{plan_of, is_make}
+use Rattle.rules.specs.Plans.{plan_of}
 use Rattle.std.proofs.lemmas.Bool.{and_parts, leb-true}
 use Rattle.tree.specs.Kept.{steps_fit}
-use Rattle.tree.specs.Nodes.{at, makes, top, total}
+use Rattle.tree.specs.Nodes.{at, makes, total}
 use Rattle.tree.specs.Questions.{nodes_of}
 use Rattle.tree.specs.declared.node.Node.{Node}
 use Rattle.tree.specs.declared.tree.Tree.{Tree}

@@ -1,9 +1,9 @@
 -- With one buffer, what is written reads back as the records of all calls. Assumes nothing.
-use Rattle.std.proofs.Common.{◌≡◌, ℕ, Bool, List, [], ◌∷◌, ◌++◌, reverse, take, Ok, Err, Result, sym, refl, ap, ◌∙◌, subst, append-nil}
+use Rattle.std.proofs.Common.{◌≡◌, ℕ, Bool, List, [], ◌++◌, reverse, take, Ok, Err, Result, sym, ap, ◌∙◌, append-nil}
 use mathlib.Core.List.{reverse-append}
 use Rattle.law.proofs.Following.{read_records, read_none}
 use Rattle.law.specs.Answers.{answering, unasked}
-use Rattle.law.specs.Calls.{Status, Ran, Request, run_of, Called, Opened}
+use Rattle.law.specs.Calls.{Status, Request, run_of, Called, Opened}
 use Rattle.law.specs.Counts.{records_of}
 use Rattle.law.specs.Law.{ReadsBackFrom}
 use Rattle.law.specs.Traces.{wrote_records, Moment, just_opened, after_call, Trace, InOneBuffer, at_open, by_call, by_load, by_obtain, by_release}
@@ -17,7 +17,6 @@ use Rattle.schedule.proofs.Divisions.{division_encoded}
 use Rattle.schedule.proofs.Encodings.{encoded_append}
 use Rattle.schedule.specs.Reading.{division}
 use Rattle.schedule.specs.Records.{encoded}
-use Rattle.schedule.specs.declared.record.Record.{Record}
 
 -- what is written is the bytes of all records
 abbrev Written : {P : Type 0} → Moment P → List ℕ → Type 0

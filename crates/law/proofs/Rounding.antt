@@ -1,14 +1,14 @@
 -- Rounds come to the finish of every build on every pool. Assumes nothing.
-use Rattle.std.proofs.Common.{◌≡◌, ℕ, zero, suc, ◌+◌, ◌-◌, ◌<◌, ◌≤◌, Bool, true, false, not, ◌&&◌, List, [], ◌∷◌, length, sym, refl, ap, ◌∙◌, subst, ⊎_elim, arith}
+use Rattle.std.proofs.Common.{◌≡◌, ℕ, zero, suc, ◌+◌, ◌<◌, ◌≤◌, Bool, true, false, not, ◌&&◌, length, sym, refl, ap, ◌∙◌, subst, ⊎_elim, arith}
 use Rattle.law.proofs.Carried.{RunningJob, step_others}
 use Rattle.law.proofs.Counting.{jobs_listed, one_more}
 use Rattle.law.proofs.Outcomes.{Ready, step_outcome}
 use Rattle.law.proofs.Sums.{sum_within}
 use Rattle.law.specs.Sound.{entry, state_of, left_of, steps_left}
 use Rattle.pool.specs.Meaning.{sum_below}
-use Rattle.rules.specs.Builds.{Build, is_running, running, running_jobs, finished}
+use Rattle.rules.specs.Builds.{running, running_jobs, finished}
 use Rattle.rules.specs.Calls.{step_run, step_each, rounds_by, rounds_run}
-use Rattle.rules.specs.Lists.{if_so, numbers, those, put_if}
+use Rattle.rules.specs.Lists.{numbers, those, put_if}
 use Rattle.rules.specs.Plans.{Plan, is_make}
 use Rattle.rules.specs.Settling.{Store, Run}
 use Rattle.rules.specs.declared.progress.State.{State}

@@ -1,9 +1,9 @@
 -- How many children of a make run, as nodes start and end. Assumes nothing.
-use Rattle.std.proofs.Common.{◌≡◌, ℕ, zero, suc, ◌+◌, ◌<◌, ◌≤◌, Bool, true, false, cond, not, ◌&&◌, eqb, ◌⊎◌, List, sym, refl, ap, ◌∙◌, subst, inl, inr, ⊎_elim, arith}
-use Rattle.law.proofs.Sums.{sum_same, sum_none, sum_point, sum_change}
+use Rattle.std.proofs.Common.{◌≡◌, ℕ, zero, suc, ◌+◌, ◌<◌, Bool, true, false, not, ◌&&◌, eqb, ◌⊎◌, List, refl, ap, inl, inr, ⊎_elim, arith}
+use Rattle.law.proofs.Sums.{sum_same, sum_point, sum_change}
 use Rattle.law.proofs.Views.{Turned, turned_here, turned_there}
 use Rattle.law.specs.Counts.{one_if}
-use Rattle.law.specs.Sound.{entry, state_of, is_child, is_failed, children_running, BelowTop}
+use Rattle.law.specs.Sound.{state_of, is_child, is_failed, children_running, BelowTop}
 use Rattle.pool.specs.Meaning.{sum_below}
 use Rattle.rules.specs.Builds.{is_waiting, is_running}
 use Rattle.rules.specs.Plans.{Plan}
@@ -11,7 +11,7 @@ use Rattle.rules.specs.Words.{is_ended}
 use Rattle.rules.specs.declared.progress.Progress.{Progress}
 use Rattle.rules.specs.declared.progress.State.{State}
 use Rattle.rules.specs.declared.progress.State.TheVariants.{Waiting, Running, Good, Failed}
-use Rattle.std.proofs.lemmas.Bool.{and_parts, and_from, cases_Bool, cases_lt, eqb-true, eqb-false, eq-eqb, ne_eqb, not-true, not_from_false, true≢false, false≢true}
+use Rattle.std.proofs.lemmas.Bool.{and_parts, and_from, cases_Bool, cases_lt, eqb-true, eqb-false, eq-eqb, ne_eqb, not-true, not_from_false, false≢true}
 
 -- states exclude one another
 pub run_wait : (s : State) → is_running s ≡ true → is_waiting s ≡ true → ⊥

@@ -1,23 +1,22 @@
 -- Settling keeps the shape of the build, and leaves no live make idle. Assumes nothing.
-use Rattle.std.proofs.Common.{◌≡◌, ℕ, zero, suc, ◌+◌, ◌-◌, ◌<◌, ◌≤◌, Bool, true, false, eqb, ◌⊎◌, List, [], ◌∷◌, ◌++◌, length, Some, None, sym, refl, ap, ◌∙◌, subst, inl, inr, ⊎_elim, arith}
-use Rattle.law.proofs.Bridges.{running_some, running_none, busy_now}
+use Rattle.std.proofs.Common.{◌≡◌, ℕ, zero, suc, ◌+◌, ◌-◌, ◌<◌, ◌≤◌, Bool, true, false, eqb, ◌⊎◌, None, sym, refl, ap, ◌∙◌, subst, inl, inr, ⊎_elim, arith}
+use Rattle.law.proofs.Bridges.{running_some, running_none}
 use Rattle.law.proofs.Ends.{Shaped}
 use Rattle.law.proofs.Moves.{Moves, still, in_slot, with_token, no_more}
 use Rattle.law.proofs.Running.{one_true, one_false, run_wait}
 use Rattle.law.proofs.Shapes.{shape_start}
-use Rattle.law.proofs.Views.{turned, turned_there, turned_here}
+use Rattle.law.proofs.Views.{turned, turned_there}
 use Rattle.law.specs.Counts.{one_if}
-use Rattle.law.specs.Sound.{entry, state_of, children_running, tokens_with, BelowTop, Busy}
-use Rattle.rules.specs.Builds.{Build, at, is_running, running, waiting, has_running}
+use Rattle.law.specs.Sound.{children_running, BelowTop}
+use Rattle.rules.specs.Builds.{Build, is_running, running, waiting, has_running}
 use Rattle.rules.specs.Lists.{numbers, those, put_if}
-use Rattle.rules.specs.Plans.{Plan, children}
 use Rattle.rules.specs.Settled.{Settles, SlotsUsed, NothingStarts, slot, token, no_token, nothing}
 use Rattle.rules.specs.Settling.{Store, Run, start_in_slot, start_with_token, settle}
 use Rattle.rules.specs.Settling.{Start}
-use Rattle.rules.specs.Words.{Each, Startable, Make, InSlot, WithToken}
+use Rattle.rules.specs.Words.{Each, Startable, Make}
 use Rattle.rules.specs.declared.progress.State.TheVariants.{Running}
 use Rattle.rules.proofs.Starts.{each_at, settles}
-use Rattle.std.proofs.lemmas.Bool.{cases_eq, cases_Bool, eqb-true, both_ways}
+use Rattle.std.proofs.lemmas.Bool.{cases_Bool, eqb-true}
 
 -- those that pass, among the numbers from k on, lie within bounds and pass
 each_among : (q : ℕ → Bool) (lo hi k n : ℕ) → lo ≤ k → k + n ≤ hi → Each (λ i. (lo ≤ i) × (i < hi) × (q i ≡ true)) (those q (numbers k n))

@@ -1,8 +1,7 @@
 -- The shape of a build through each start, step and end. Assumes nothing.
-use Rattle.std.proofs.Common.{◌≡◌, ℕ, zero, suc, ◌+◌, ◌-◌, ◌<◌, ◌≤◌, Bool, true, false, cond, not, ◌&&◌, eqb, ◌⊎◌, List, [], ◌∷◌, length, get_or, set, replicate, sym, refl, ap, ◌∙◌, subst, inl, inr, ⊎_elim, arith, length-set}
-use lib.ListN.{length-replicate}
-use Rattle.law.proofs.Running.{run_wait, run_ended, wait_ended, ended_stops, waits_not_running, one_true, one_false, child_eqb, runs_counted, none_runs, none_counted, children_turned, children_same}
-use Rattle.law.proofs.Views.{Turned, set_at, set_field, turned, turned_here, turned_there}
+use Rattle.std.proofs.Common.{◌≡◌, ℕ, zero, suc, ◌+◌, ◌-◌, ◌<◌, Bool, true, false, cond, not, ◌&&◌, eqb, ◌⊎◌, List, [], length, set, sym, refl, ap, ◌∙◌, subst, inl, inr, ⊎_elim, arith, length-set}
+use Rattle.law.proofs.Running.{run_wait, run_ended, wait_ended, ended_stops, waits_not_running, one_true, one_false, child_eqb, none_runs, none_counted, children_turned, children_same}
+use Rattle.law.proofs.Views.{Turned, set_field, turned, turned_here, turned_there}
 use Rattle.law.specs.Counts.{one_if}
 use Rattle.law.specs.Sound.{entry, state_of, is_child, is_failed, children_running, tokens_with, BelowTop, HasWaiting, Planned, Shape, Busy}
 use Rattle.rules.specs.Builds.{unbegun, is_waiting, is_running, with_state}
@@ -13,9 +12,9 @@ use Rattle.rules.specs.Plans.{Plan, is_make}
 use Rattle.rules.specs.Words.{is_ended}
 use Rattle.rules.specs.declared.progress.Progress.{Progress}
 use Rattle.rules.specs.declared.progress.State.{State}
-use Rattle.rules.specs.declared.progress.State.TheVariants.{Waiting, Running, Good, Failed}
+use Rattle.rules.specs.declared.progress.State.TheVariants.{Waiting, Running, Good}
 use Rattle.rules.proofs.Telling.{set_keeps}
-use Rattle.std.proofs.lemmas.Bool.{cases_eq, cases_Bool, cases_lt, eqb-true, eq-eqb, ne_eqb, true≢false, false≢true, both_ways}
+use Rattle.std.proofs.lemmas.Bool.{cases_eq, eq-eqb, ne_eqb, true≢false, false≢true, both_ways}
 
 -- the top make lives as long as any node runs
 rooted_by : {h : Bool} {p : ℕ} {t : Plan} {ns : List Progress} {ts : List Held} → Shape h p t ns ts → (fuel n : ℕ) → n < fuel → n < t.nodes → is_running (state_of ns n) ≡ true → is_running (state_of ns 0) ≡ true

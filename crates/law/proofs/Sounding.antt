@@ -1,5 +1,5 @@
 -- Every call leaves a sound build. Assumes nothing.
-use Rattle.std.proofs.Common.{◌≡◌, ℕ, ◌+◌, ◌*◌, ◌<◌, ◌≤◌, Bool, true, false, cond, List, [], ◌∷◌, reverse, length, replicate, None, Ok, Err, Result, sym, refl, ap, ◌∙◌, subst, arith}
+use Rattle.std.proofs.Common.{◌≡◌, ℕ, ◌+◌, ◌≤◌, Bool, true, false, cond, List, [], length, replicate, None, Ok, Err, Result, sym, refl, ap, ◌∙◌, subst, arith}
 use lib.ListN.{length-replicate}
 use Rattle.law.proofs.Accepting.{accepts, job_accepts}
 use Rattle.law.proofs.Bounds.{sizes, sizes_written}
@@ -13,19 +13,16 @@ use Rattle.law.proofs.Shapes.{shape_fresh}
 use Rattle.law.specs.Always.{unopened, OfAnyBuild}
 use Rattle.law.specs.Answers.{Answers, answering, unasked}
 use Rattle.law.specs.Calls.{Status, Ran, Request, step, kill, poll, halt, refusal_of, run_of, Called, Opened}
-use Rattle.law.specs.Sound.{entry, state_of, bytes_left, unended, Busy, Planned, Sound}
+use Rattle.law.specs.Sound.{state_of, bytes_left, unended, Busy, Planned, Sound}
 use Rattle.pool.specs.Meaning.{total}
 use Rattle.pool.specs.Ways.{Ways}
-use Rattle.rules.specs.Builds.{Build, unbegun, is_running, is_waiting, running, running_jobs, finished}
+use Rattle.rules.specs.Builds.{unbegun, is_running, is_waiting, running}
 use Rattle.rules.specs.Calls.{open_run}
 use Rattle.rules.specs.Plans.{Plan, plan_of, needed}
 use Rattle.rules.specs.Settling.{Store, Run}
 use Rattle.rules.specs.declared.refusal.Refusal.{Refusal}
-use Rattle.schedule.specs.Buffers.{Wrote}
-use Rattle.schedule.specs.Records.{encoded}
 use Rattle.std.proofs.lemmas.Bool.{not-false}
 use Rattle.tree.specs.Questions.{nodes_of}
-use Rattle.tree.specs.declared.tree.Tree.{Tree}
 
 -- a sound build is ready for a run
 pub ready_of : {P : Type 0} (store : Store P) (s : Status) (p : P) → Sound s → Ready store s.build.plan s.written (record { build = s.build; pool = p; records = [] })

@@ -1,21 +1,21 @@
 -- The records tell how far each node is and which tokens each make holds. Assumes nothing.
-use Rattle.std.proofs.Common.{◌≡◌, ℕ, zero, suc, ◌+◌, ◌-◌, ◌<◌, ◌≤◌, Bool, true, false, cond, not, ◌&&◌, eqb, ◌⊎◌, List, [], ◌∷◌, ◌++◌, length, get_or, set, Some, None, Option, sym, refl, ap, ◌∙◌, subst, inl, inr, ⊎_elim, arith, length-set, get_or-set_same}
-use Rattle.law.proofs.Moves.{Keeping, after_child, with_pool}
-use Rattle.law.proofs.Running.{run_wait, one_true, one_false}
+use Rattle.std.proofs.Common.{◌≡◌, ℕ, ◌+◌, ◌<◌, Bool, true, false, cond, not, ◌&&◌, eqb, List, [], ◌∷◌, ◌++◌, length, get_or, set, Some, None, Option, sym, refl, ap, ◌∙◌, subst, arith, length-set, get_or-set_same}
+use Rattle.law.proofs.Moves.{Keeping}
+use Rattle.law.proofs.Running.{one_true, one_false}
 use Rattle.law.proofs.Settles.{startable_child}
 use Rattle.law.proofs.Shapes.{Due}
 use Rattle.law.proofs.Tokens.{of_make, goes_some}
 use Rattle.law.proofs.Views.{Turned, turned, turned_there}
 use Rattle.law.specs.Counts.{one_if, takes, returns, begins, ends_well, ends_failed, how_many, runs, finish_of}
 use Rattle.law.specs.Law.{OwnReturns}
-use Rattle.law.specs.Sound.{entry, state_of, is_failed, BelowTop}
-use Rattle.rules.specs.Builds.{Build, unbegun, at, is_running, is_waiting, with_state}
+use Rattle.law.specs.Sound.{state_of}
+use Rattle.rules.specs.Builds.{unbegun, at, is_running, is_waiting, with_state}
 use Rattle.rules.specs.Builds.{Held}
-use Rattle.rules.specs.Ending.{goes_back, put_found, put_one, mark, marked, ends_so, finish, make_end}
+use Rattle.rules.specs.Ending.{goes_back, put_found, mark, marked, ends_so, finish, make_end}
 use Rattle.rules.specs.Lists.{is_some}
-use Rattle.rules.specs.Settling.{Store, Run, start_in_slot, start_with_token}
+use Rattle.rules.specs.Settling.{Store, Run}
 use Rattle.rules.specs.Settling.{Start}
-use Rattle.rules.specs.Words.{Startable, InSlot, WithToken, is_ended}
+use Rattle.rules.specs.Words.{Startable, is_ended}
 use Rattle.rules.specs.declared.progress.Progress.{Progress}
 use Rattle.rules.specs.declared.progress.State.{State}
 use Rattle.rules.specs.declared.progress.State.TheVariants.{Waiting, Running, Good, Failed}
@@ -24,7 +24,7 @@ use Rattle.schedule.specs.declared.cause.Cause.{Cause}
 use Rattle.schedule.specs.declared.cause.Cause.TheVariants as causes
 use Rattle.schedule.specs.declared.record.Record.{Record}
 use Rattle.schedule.specs.declared.record.Record.TheVariants.{Open, StartInSlot, StartWithToken, Step, Kill, Halt, EndedWell, EndedFailed, PutBack, Finished}
-use Rattle.std.proofs.lemmas.Bool.{cases_eq, cases_Bool, eqb-true, eq-eqb, true≢false, false≢true, both_ways, and_from}
+use Rattle.std.proofs.lemmas.Bool.{eqb-true, eq-eqb, false≢true, and_from}
 
 abbrev pub is_good : State → Bool
 is_good Waiting = false

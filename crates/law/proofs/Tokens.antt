@@ -1,12 +1,12 @@
 -- Which token goes back, as counts. Assumes nothing.
-use Rattle.std.proofs.Common.{◌≡◌, ℕ, zero, suc, ◌+◌, ◌-◌, ◌<◌, ◌≤◌, Bool, true, false, cond, eqb, ◌⊎◌, List, [], ◌∷◌, Some, None, Option, sym, refl, ap, ◌∙◌, subst, inl, inr, ⊎_elim, arith}
+use Rattle.std.proofs.Common.{◌≡◌, ℕ, ◌+◌, ◌-◌, Bool, true, false, eqb, List, [], ◌∷◌, Some, None, Option, sym, refl, ap, ◌∙◌, subst, ⊎_elim, arith}
 use Rattle.law.proofs.Running.{one_true, one_false}
 use Rattle.law.specs.Counts.{one_if, how_many}
 use Rattle.law.specs.Sound.{tokens_with}
 use Rattle.rules.specs.Builds.{Held}
 use Rattle.rules.specs.Ending.{goes_back, keep_held}
 use Rattle.rules.specs.Lists.{if_so}
-use Rattle.std.proofs.lemmas.Bool.{cases_Bool, eqb-true, eq-eqb}
+use Rattle.std.proofs.lemmas.Bool.{cases_Bool, eqb-true}
 
 -- a token of the make
 abbrev pub of_make : ℕ → ℕ → Held

@@ -1,14 +1,11 @@
 -- What is counted from calls and records alone.
-use Rattle.std.specs.Prelude.{ℕ, ◌+◌, ◌-◌, Bool, true, false, cond, not, ◌&&◌, List, [], ◌∷◌, ◌++◌, reverse, Some, None, Ok, Err, Option, Result, ◌==◌}
+use Rattle.std.specs.Prelude.{ℕ, ◌+◌, ◌-◌, Bool, true, false, cond, not, ◌&&◌, List, [], ◌∷◌, ◌++◌, reverse, Some, None, Ok, Err, Option, ◌==◌}
 use Rattle.law.specs.Calls.{Request, step, kill, poll, halt}
 use Rattle.law.specs.Traces.{Event, opened, called, loaded, obtained, released}
 use Rattle.pool.specs.Meaning.{only, sum_below, total}
 use Rattle.rules.specs.Plans.{Plan, is_make}
-use Rattle.rules.specs.declared.refusal.Refusal.{Refusal}
 use Rattle.schedule.specs.declared.record.Record.{Record}
 use Rattle.schedule.specs.declared.record.Record.TheVariants.{Open, StartInSlot, StartWithToken, Step, Kill, Halt, EndedWell, EndedFailed, PutBack, Finished}
-use Rattle.tool.specs.declared.grants.Grant.{Grant}
-use Rattle.tool.specs.declared.grants.Unreleased.{Unreleased}
 
 -- 1 if so, else 0
 abbrev pub one_if : Bool → ℕ

@@ -1,5 +1,5 @@
 -- The law over traces: what a whole tree of makes and the tools beside it add up to.
-use Rattle.std.specs.Prelude.{◌≡◌, ℕ, ◌+◌, ◌<◌, ◌≤◌, Bool, not, ◌⊎◌, List, [], ◌∷◌, ◌++◌, reverse, take, Some, None, Ok, Err, Result, ◌≢◌}
+use Rattle.std.specs.Prelude.{◌≡◌, ℕ, ◌+◌, ◌<◌, ◌≤◌, Bool, not, ◌⊎◌, List, [], ◌∷◌, ◌++◌, reverse, take, Some, None, Ok, Err, ◌≢◌}
 use Rattle.law.specs.Calls.{Status, Opened}
 use Rattle.law.specs.Counts.{one_if, how_many, takes, returns, begins, ends_well, runs, holds, makes_hold, all_held, jobs_running, finish_of, records_of, is_step_of, works, accepted, tools_hold, tools_held}
 use Rattle.law.specs.Traces.{Event, opened, called, loaded, obtained, released, Moment, just_opened, Trace, InOneBuffer}

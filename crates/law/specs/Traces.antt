@@ -1,5 +1,5 @@
 -- A trace: any calls on a build that was just opened and on its pool, in any number and order.
-use Rattle.std.specs.Prelude.{◌≡◌, ℕ, List, [], ◌∷◌, ◌++◌, reverse, Some, None, Ok, Err, Option, Result}
+use Rattle.std.specs.Prelude.{◌≡◌, ℕ, List, [], ◌∷◌, ◌++◌, Some, None, Ok, Err, Option, Result}
 use Rattle.law.specs.Calls.{Status, Request, Called}
 use Rattle.pool.specs.Ways.{Ways, Load}
 use Rattle.pool.specs.declared.refusals.Refusal.{Refusal as PoolRefusal}

@@ -8,8 +8,8 @@ ghost use Rattle.script.specs.Reading.{read_text};
 ghost use Rattle.semaphore.specs.Semaphores.{semaphore_ways};
 ghost use Rattle.semaphore.specs.Semaphores as semaphores;
 
-use crate::printed::{event_lines, refusal_line};
 use crate::nodes::push_tree;
+use crate::printed::{event_lines, refusal_line};
 use drain::drain;
 use first_line::{PoolChoice, read_first_line};
 use pipe::Pipe;

@@ -1,17 +1,12 @@
 -- Pools compute as they are promised to behave. Assumes nothing.
-use Rattle.std.proofs.Common.{◌≡◌, ℕ, zero, suc, ◌+◌, ◌-◌, ◌<◌, ◌≤◌, min, Bool, true, false, leb, List, [], ◌∷◌, ◌++◌, length, Some, None, Option, sym, refl, ap, ◌∙◌, ⊎_elim, add-one, arith, lit<}
-use Rattle.layers.specs.LoadLimits.{limit_ways}
-use Rattle.layers.specs.Quotas.{quota_ways}
-use Rattle.pipe.specs.Pipes.{line, out, pipe_ways}
-use Rattle.pipe.specs.declared.state.Pipe.{Pipe}
+use Rattle.std.proofs.Common.{◌≡◌, ℕ, zero, suc, ◌+◌, ◌-◌, Bool, true, false, leb, List, [], ◌∷◌, length, Some, None, sym, refl, ap, ◌∙◌, ⊎_elim, arith, lit<}
+use Rattle.pipe.specs.Pipes.{line, out}
 use Rattle.pool.specs.Meaning.{total, only}
 use Rattle.pool.specs.Ways.{Ways}
 use Rattle.pool.proofs.Totals.{total_more, total_only}
-use Rattle.rules.specs.Agreement.{Agrees, pipe_agrees, semaphore_agrees, layers_agree}
+use Rattle.rules.specs.Agreement.{pipe_agrees, semaphore_agrees, layers_agree}
 use Rattle.rules.specs.Lists.{if_so}
-use Rattle.rules.specs.Settling.{Store}
-use Rattle.rules.specs.Stores.{Stock, give, give_plus, pipe_store, semaphore_store}
-use Rattle.semaphore.specs.Semaphores.{semaphore_ways}
+use Rattle.rules.specs.Stores.{give, give_plus}
 use Rattle.std.proofs.lemmas.Bool.{cases_lt, cond-false, cond-true, le-leb, lt-leb}
 
 -- what is given from a line that is known

@@ -1,11 +1,11 @@
 -- Every token goes back directly behind the end that brought it. Assumes nothing.
-use Rattle.std.proofs.Common.{◌≡◌, ℕ, zero, suc, Bool, true, false, cond, eqb, List, [], ◌∷◌, Some, None, Option, sym, refl, ap, ◌∙◌, subst}
+use Rattle.std.proofs.Common.{◌≡◌, ℕ, zero, suc, Bool, true, false, cond, eqb, List, [], ◌∷◌, Some, None, Option, sym, refl, ◌∙◌, subst}
 use Rattle.rules.specs.Builds.{Build, Held, running_jobs, with_node, finished, at}
-use Rattle.rules.specs.Calls.{noted, on_build, opening, step_run, kill_run, poll_run, halt_run, rounds_run, rounds_by, step_each, end_all, last_step, stop_all, stop, stepped}
+use Rattle.rules.specs.Calls.{noted, on_build, opening, step_run, kill_run, halt_run, rounds_by, step_each, end_all, last_step, stop_all, stop, stepped}
 use Rattle.rules.specs.Ending.{put_found, put_one, goes_back, mark, ends_so, finish, end_by, end_node, make_end, is_over}
 use Rattle.rules.specs.Lists.{if_so, is_some}
-use Rattle.rules.specs.Plans.{Plan, all_makes}
-use Rattle.rules.specs.Returns.{EndsChild, MayFollow, Returns, Keeps, Returned}
+use Rattle.rules.specs.Plans.{all_makes}
+use Rattle.rules.specs.Returns.{Returns, Keeps, Returned}
 use Rattle.rules.specs.Settling.{Store, Run, start_in_slot, start_with_token, settle}
 use Rattle.rules.specs.Words.{is_ended}
 use Rattle.rules.proofs.Held.{if_holds, settle_holds}

@@ -2,14 +2,13 @@
 use Rattle.std.proofs.Common.{◌≡◌, ℕ, zero, suc, ◌+◌, ◌<◌, ◌≤◌, Bool, true, false, cond, not, ◌&&◌, List, [], ◌∷◌, ◌++◌, length, Some, None, Option, sym, refl, ap, ◌∙◌, subst, ⊎_elim, arith, length-append}
 use Rattle.rules.specs.Builds.{Build, at, running, waiting, is_waiting, has_running}
 use Rattle.rules.specs.Lists.{numbers, those, first_of, or_else, put_if, when}
-use Rattle.rules.specs.Plans.{Plan, is_make, all_makes, children}
+use Rattle.rules.specs.Plans.{is_make, children}
 use Rattle.rules.specs.Settling.{Start, starts, next_in_slot, next_with_token}
 use Rattle.rules.specs.Startable.{look, search_children, startable}
 use Rattle.rules.specs.Words.{Each, is_ended, Startable, Make, InSlot, WithToken, Served}
 use Rattle.rules.specs.declared.progress.State.{State}
 use Rattle.rules.specs.declared.progress.State.TheVariants.{Waiting, Running, Good, Failed}
 use Rattle.std.proofs.lemmas.Bool.{and_from, and_parts, both_ways, cases_Bool, cases_eq, cond-false, cond-true, not-true, true≢false}
-use Rattle.std.specs.Option.{option_map}
 
 module _ (b : Build) where
   -- whether the last of these children is free to start, by what was so before them

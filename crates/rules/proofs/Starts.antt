@@ -1,15 +1,13 @@
 -- Settling comes to its end: each start uses up a node that has not begun. Assumes nothing.
 use Rattle.std.proofs.Common.{◌≡◌, ℕ, zero, suc, ◌+◌, ◌-◌, ◌<◌, ◌≤◌, Bool, true, false, cond, eqb, List, [], ◌∷◌, ◌++◌, length, get_or, set, Some, None, Option, sym, refl, ap, ◌∙◌, subst, arith, length-set}
-use Rattle.rules.specs.Builds.{Build, unbegun, is_waiting, waiting, in_state}
+use Rattle.rules.specs.Builds.{Build, unbegun, is_waiting, in_state}
 use Rattle.rules.specs.Lists.{numbers, those, put_if}
-use Rattle.rules.specs.Plans.{Plan, children}
-use Rattle.rules.specs.Settled.{SlotsUsed, NothingStarts, Settles, Complete, slot, token, no_token, nothing}
+use Rattle.rules.specs.Settled.{SlotsUsed, Settles, Complete, slot, token, no_token, nothing}
 use Rattle.rules.specs.Settling.{Store, Run, Start, next_in_slot, next_with_token, start_in_slot, start_with_token, taken, try_token, try_slot, settle_by, settle}
-use Rattle.rules.specs.Words.{Each, Startable, Make, InSlot, WithToken}
+use Rattle.rules.specs.Words.{Each, Startable, WithToken}
 use Rattle.rules.specs.declared.progress.Progress.{Progress}
 use Rattle.rules.specs.declared.progress.State.TheVariants.{Running}
 use Rattle.rules.proofs.Searches.{served}
-use Rattle.std.proofs.lemmas.Bool.{true≢false}
 
 -- how many nodes have not begun
 left : List Progress → ℕ

@@ -1,14 +1,13 @@
 -- Every call leaves records that tell what the nodes of the build know. Assumes nothing.
-use Rattle.std.proofs.Common.{◌≡◌, ℕ, zero, suc, ◌+◌, ◌<◌, ◌≤◌, Bool, true, false, cond, not, ◌&&◌, eqb, ltb, List, [], ◌∷◌, length, get_or, set, replicate, Some, None, Ok, Option, sym, refl, ap, ◌∙◌, subst, ⊎_elim, arith, length-set}
+use Rattle.std.proofs.Common.{◌≡◌, ℕ, zero, suc, ◌+◌, ◌<◌, ◌≤◌, Bool, true, false, cond, not, ◌&&◌, eqb, ltb, List, [], ◌∷◌, get_or, set, replicate, Some, None, Ok, Option, sym, refl, ap, ◌∙◌, subst, ⊎_elim, arith}
 use lib.ListN.{length-replicate}
-use Rattle.rules.specs.Builds.{Build, Held, unbegun, at, with_node, with_state, running, running_jobs, finished, begun_on}
-use Rattle.rules.specs.Calls.{noted, on_build, opening, open_run, step_run, kill_run, poll_run, halt_run, rounds_run, rounds_by, step_each, end_all, last_step, stop_all, stop, stepped}
+use Rattle.rules.specs.Builds.{Build, Held, unbegun, at, with_node, with_state, running, running_jobs, finished}
+use Rattle.rules.specs.Calls.{noted, on_build, opening, step_run, kill_run, halt_run, rounds_by, step_each, end_all, last_step, stop_all, stop, stepped}
 use Rattle.rules.specs.Causes.{AllCaused, Caused, failed_child, first_failed_child, HasHalt, CauseOf, Told, Tells, TellsAll, FirstFault, Ordered, TreesOrdered, Job, here, before, by_script, by_kill, by_child, by_halt, steps_in}
-use Rattle.rules.specs.Ending.{put_found, put_one, goes_back, mark, marked, ends_so, finish, end_by, end_node, make_end, is_over}
+use Rattle.rules.specs.Ending.{put_found, put_one, goes_back, mark, ends_so, end_by, end_node, make_end, is_over}
 use Rattle.rules.specs.Faults.{Fault, of_child, fault, fault_in, fault_by}
 use Rattle.rules.specs.Lists.{if_so, is_some, or_else, when, numbers, those, put_if}
 use Rattle.rules.specs.Plans.{Plan, is_make, all_makes}
-use Rattle.rules.specs.Returns.{Keeps}
 use Rattle.rules.specs.Settling.{Store, Run, Start, start_in_slot, start_with_token, settle}
 use Rattle.rules.specs.Words.{Each}
 use Rattle.rules.specs.declared.progress.Progress.{Progress}
@@ -18,7 +17,7 @@ use Rattle.rules.proofs.Agreeing.{taken_so}
 use Rattle.rules.proofs.Backs.{stop_plan}
 use Rattle.rules.proofs.Held.{if_holds, settle_holds}
 use Rattle.rules.proofs.Starts.{numbers_below}
-use Rattle.rules.proofs.Telling.{Quiet, Same, Owing, same_set, told_same, told_quiet, told_step, owing, owing_quiet, owing_top, owing_marked}
+use Rattle.rules.proofs.Telling.{Owing, same_set, told_same, told_quiet, told_step, owing, owing_quiet, owing_top, owing_marked}
 use Rattle.schedule.specs.Causes.{cause_number}
 use Rattle.schedule.specs.declared.cause.Cause.TheVariants as causes
 use Rattle.schedule.specs.declared.record.Record.{Record}

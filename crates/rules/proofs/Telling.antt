@@ -1,5 +1,5 @@
 -- The records tell what the nodes of a build know. Assumes nothing.
-use Rattle.std.proofs.Common.{◌≡◌, ℕ, zero, suc, ◌+◌, ◌<◌, Bool, true, false, cond, not, ◌&&◌, eqb, List, [], ◌∷◌, length, get_or, set, Some, None, Option, sym, refl, ap, ◌∙◌, subst, ⊎_elim, arith, length-set, get_or-set_other, get_or-set_same}
+use Rattle.std.proofs.Common.{◌≡◌, ℕ, zero, suc, ◌+◌, ◌<◌, Bool, false, cond, not, ◌&&◌, eqb, List, [], ◌∷◌, length, get_or, set, Some, None, Option, sym, refl, ap, ◌∙◌, subst, ⊎_elim, arith, length-set, get_or-set_other, get_or-set_same}
 use Rattle.rules.specs.Builds.{unbegun}
 use Rattle.rules.specs.Calls.{stepped}
 use Rattle.rules.specs.Causes.{is_step, steps_in, failed_child, first_failed_child, CauseOf, Caused, AllCaused, Told}
@@ -9,7 +9,7 @@ use Rattle.rules.specs.Plans.{Plan}
 use Rattle.rules.specs.declared.progress.Progress.{Progress}
 use Rattle.schedule.specs.declared.record.Record.{Record}
 use Rattle.schedule.specs.declared.record.Record.TheVariants.{EndedFailed, Step}
-use Rattle.std.proofs.lemmas.Bool.{cases_eq, cond-false, cond-true, eq-eqb, ne_eqb}
+use Rattle.std.proofs.lemmas.Bool.{cases_eq, eq-eqb, ne_eqb}
 
 -- a new entry that is the same in one respect
 pub set_keeps : {A B : Type 0} (f : A → B) (xs : List A) (n : ℕ) (x d : A) (k : ℕ) → f x ≡ f (get_or xs n d) → f (get_or (set xs n x) k d) ≡ f (get_or xs k d)

@@ -1,6 +1,6 @@
 -- What a build holds, and what the rules ask of it.
-use Rattle.std.specs.Prelude.{ℕ, Bool, true, false, not, ◌&&◌, List, [], ◌∷◌, map, reverse, length, replicate, Some, None, Option, nat_eq, slice_index_or, slice_set}
-use Rattle.rules.specs.Lists.{numbers, those, any, is_some}
+use Rattle.std.specs.Prelude.{ℕ, Bool, true, false, not, ◌&&◌, List, [], map, reverse, replicate, None, nat_eq, slice_index_or, slice_set}
+use Rattle.rules.specs.Lists.{numbers, those, any}
 use Rattle.rules.specs.Plans.{Plan, is_make, children}
 use Rattle.rules.specs.declared.progress.Progress.{Progress}
 use Rattle.rules.specs.declared.progress.State.{State}

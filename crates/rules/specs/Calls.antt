@@ -1,6 +1,6 @@
 -- The calls of a build, once they are accepted.
-use Rattle.std.specs.Prelude.{ℕ, zero, suc, ◌+◌, Bool, true, false, cond, not, List, [], ◌∷◌, reverse, length, ◌==◌}
-use Rattle.rules.specs.Builds.{Build, at, begun_on, finished, in_state, running, running_jobs, with_node}
+use Rattle.std.specs.Prelude.{ℕ, zero, suc, ◌+◌, Bool, true, false, List, [], ◌∷◌, reverse, length, ◌==◌}
+use Rattle.rules.specs.Builds.{Build, at, begun_on, finished, in_state, running_jobs, with_node}
 use Rattle.rules.specs.Ending.{end_node}
 use Rattle.rules.specs.Lists.{if_so}
 use Rattle.rules.specs.Plans.{Plan, all_makes}

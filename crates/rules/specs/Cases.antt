@@ -1,5 +1,5 @@
 -- The worked cases, as rows: what a run comes to, and what it must come to.
-use Rattle.std.specs.Prelude.{◌≡◌, ℕ, Bool, true, false, List, [], ◌∷◌, ◌++◌, map, reverse, length, replicate, Some, None, Ok, Err, codes, Option, Result}
+use Rattle.std.specs.Prelude.{◌≡◌, ℕ, Bool, false, List, [], ◌∷◌, ◌++◌, map, reverse, length, replicate, Some, None, Ok, Err, codes, Option, Result}
 use Rattle.first_line.specs.Head.{Choice, a_pipe, a_semaphore, Head, head}
 use Rattle.first_line.specs.declared.types.Refusal.{Refusal}
 use Rattle.lines.specs.Faults.{Fault}
@@ -10,10 +10,9 @@ use Rattle.rules.specs.Faults.{Fault as FaultOf}
 use Rattle.rules.specs.Plans.{Plan, plan_of}
 use Rattle.rules.specs.Refusing.{open_refusal, call_refusal, job_refusal, answer, steps_taken}
 use Rattle.schedule.specs.Causes.{cause_number}
-use Rattle.rules.specs.Settling.{Store, Run}
+use Rattle.rules.specs.Settling.{Run}
 use Rattle.rules.specs.Stores.{Stock, pipe_store, semaphore_store, quota_store, limit_store}
 use Rattle.schedule.specs.Lines.{printed}
-use Rattle.schedule.specs.Records.{bytes}
 use Rattle.schedule.specs.declared.record.Record.{Record}
 use Rattle.script.specs.Reading.{read_text}
 use Rattle.tree.specs.Nodes.{top}

@@ -8,9 +8,7 @@ use Rattle.rules.specs.declared.progress.Progress.{Progress}
 use Rattle.rules.specs.declared.progress.State.{State}
 use Rattle.rules.specs.declared.progress.State.TheVariants.{Waiting, Running, Good, Failed}
 use Rattle.schedule.specs.Causes.{cause_number}
-use Rattle.schedule.specs.declared.cause.Cause.{Cause}
 use Rattle.schedule.specs.declared.cause.Cause.TheVariants.{FailedChild}
-use Rattle.schedule.specs.declared.record.Record.{Record}
 use Rattle.schedule.specs.declared.record.Record.TheVariants.{EndedWell, EndedFailed, PutBack, Finished}
 
 -- a token that is kept, before what was found behind it

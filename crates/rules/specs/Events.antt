@@ -1,5 +1,5 @@
 -- Which events each state of a node accepts, and what they do.
-use Rattle.std.specs.Prelude.{ℕ, ◌+◌, Bool, true, false, cond, nat_lt}
+use Rattle.std.specs.Prelude.{◌+◌, Bool, true, false, cond, nat_lt}
 use Rattle.rules.specs.declared.progress.End.{End}
 use Rattle.rules.specs.declared.progress.End.TheVariants as ends
 use Rattle.rules.specs.declared.progress.Event.{Event}

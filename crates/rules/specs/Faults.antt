@@ -1,5 +1,5 @@
 -- The fault of a failed node.
-use Rattle.std.specs.Prelude.{ℕ, zero, suc, Bool, true, false, List, [], ◌∷◌, Some, None, Ok, Err, Option, Result, ◌==◌, nat_lt}
+use Rattle.std.specs.Prelude.{ℕ, zero, suc, List, [], ◌∷◌, Some, None, Ok, Err, Option, Result, ◌==◌, nat_lt}
 use Rattle.rules.specs.Builds.{Build, Loss, at}
 use Rattle.rules.specs.Lists.{if_so}
 use Rattle.rules.specs.Plans.{is_make}

@@ -1,5 +1,5 @@
 -- Which calls a build refuses, by number, and what an accepted one answers.
-use Rattle.std.specs.Prelude.{ℕ, ◌+◌, ◌-◌, Bool, true, false, cond, not, ◌&&◌, ltb, List, [], ◌∷◌, map, length, Some, None, Option, nat_lt}
+use Rattle.std.specs.Prelude.{ℕ, ◌+◌, ◌-◌, Bool, cond, not, ◌&&◌, ltb, List, [], ◌∷◌, map, length, Some, None, Option, nat_lt}
 use Rattle.pool.specs.Meaning.{count}
 use Rattle.rules.specs.Builds.{Build, finished, running, running_jobs}
 use Rattle.rules.specs.Lists.{any}

@@ -1,6 +1,6 @@
 -- Starting what may start.
-use Rattle.std.specs.Prelude.{ℕ, zero, suc, not, List, [], ◌∷◌, Some, None, Option}
-use Rattle.rules.specs.Builds.{Build, Held, has_running, in_state, with_tokens}
+use Rattle.std.specs.Prelude.{ℕ, zero, suc, not, List, ◌∷◌, Some, None, Option}
+use Rattle.rules.specs.Builds.{Build, has_running, in_state, with_tokens}
 use Rattle.rules.specs.Lists.{first_of, when}
 use Rattle.rules.specs.Plans.{all_makes}
 use Rattle.rules.specs.Startable.{startable}

@@ -1,5 +1,5 @@
 -- Pools as functions, for runs that are computed: what a take answers and leaves, and what a put leaves.
-use Rattle.std.specs.Prelude.{ℕ, zero, suc, ◌+◌, ◌-◌, Bool, true, false, List, [], ◌∷◌, ◌++◌, Some, None, Option, nat_le}
+use Rattle.std.specs.Prelude.{ℕ, zero, suc, ◌+◌, ◌-◌, List, [], ◌∷◌, ◌++◌, Some, None, Option, nat_le}
 use Rattle.rules.specs.Lists.{if_so}
 use Rattle.rules.specs.Settling.{Store}
 

@@ -1,4 +1,4 @@
-use Rattle.std.proofs.Common.{◌≡◌, false, map, reverse, length, replicate, vec_items, sym, refl, ap, ◌∙◌, arith}
+use Rattle.std.proofs.Common.{◌≡◌, false, map, reverse, length, replicate, vec_items, refl, arith}
 use Rattle.build.specs.Lost.{losses_by}
 use Rattle.build.specs.Models.{held}
 use Rattle.build.proofs.Fresh.{filled_table}

@@ -1,7 +1,6 @@
 use Rattle.law.proofs.Following.{follow, follow_open, law_now}
 use Rattle.law.proofs.Planning.{trees_planned}
 use Rattle.law.proofs.Reading.{reads_back}
-use Rattle.law.proofs.laws.every_trace.Given as given
 use Rattle.law.proofs.laws.every_trace.Goals as goal
 use Rattle.law.specs.Lending.{Lends}
 use Rattle.rules.specs.Plans.{plan_of}

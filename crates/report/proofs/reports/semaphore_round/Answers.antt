@@ -1,4 +1,3 @@
-use Rattle.std.proofs.Common.{◌≡◌, vec_items, sym, subst}
 use Rattle.std.proofs.lemmas.Result.{IfOk-weaker}
 use Rattle.report.proofs.Rounds.{round_from}
 use Rattle.report.proofs.reports.semaphore_round.Goals as goal

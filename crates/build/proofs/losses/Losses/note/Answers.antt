@@ -1,4 +1,4 @@
-use Rattle.std.proofs.Common.{◌≡◌, [], ◌∷◌, ◌++◌, reverse, length, vec_items, sym, ap, ◌∙◌, arith}
+use Rattle.std.proofs.Common.{◌≡◌, [], ◌∷◌, ◌++◌, reverse, length, vec_items, ap, ◌∙◌, arith}
 use Rattle.build.specs.Hands.{own_bytes}
 use Rattle.build.specs.Lost.{losses_by}
 use Rattle.build.specs.Models.{in_hand}

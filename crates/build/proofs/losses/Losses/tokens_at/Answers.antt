@@ -1,8 +1,6 @@
-use Rattle.std.proofs.Common.{◌≡◌, ◌+◌, ◌-◌, ◌<◌, ◌≤◌, ℕ, List, min, length, take, drop, vec_items, refl, sym, ap, ◌∙◌, subst, arith}
+use Rattle.std.proofs.Common.{◌≡◌, ◌+◌, ◌-◌, ◌≤◌, ℕ, List, min, take, drop, vec_items, sym, ap, ◌∙◌, subst, arith}
 use Rattle.std.specs.Result.{IfOk}
 use Rattle.std.proofs.lemmas.List.{drop-take, take_all}
-use Rattle.rules.specs.Faults.{tokens_at}
-use Rattle.build.specs.Lost.{noted_losses}
 use Rattle.build.proofs.Shown.{left_found, left_on, left_all, left_none}
 use Rattle.build.proofs.losses.Losses.tokens_at.Goals as goal
 

@@ -1,4 +1,4 @@
-use Rattle.std.proofs.Common.{◌≡◌, ℕ, Bool, List, IfOk, Ok, Err, Result}
+use Rattle.std.proofs.Common.{ℕ, Bool, List, IfOk, Ok, Err, Result}
 use Rattle.build.proofs.Keeping.{kept_by, fit_by, sound_by}
 use Rattle.build.proofs.state.Build.open.Goals as goal
 use Rattle.build.specs.Models.{status}

@@ -1,4 +1,4 @@
-use Rattle.std.proofs.Common.{◌-◌, ◌<◌, ◌≤◌, map, length, vec_items, arith}
+use Rattle.std.proofs.Common.{◌-◌, ◌<◌, map, length, vec_items, arith}
 use Rattle.std.proofs.lemmas.List.{length-map, take_all, drop_all}
 use Rattle.build.specs.Models.{held}
 use Rattle.build.proofs.Handing.{looked_none, looked_on, looked_last, looked_all}

@@ -2,7 +2,6 @@ use Rattle.std.proofs.Common.{◌≡◌, ◌+◌, ◌<◌, length, refl, ap, sub
 use Rattle.rules.specs.Builds.{at, in_state, with_node, with_state}
 use Rattle.rules.specs.Calls.{bit}
 use Rattle.rules.specs.declared.progress.State.TheVariants.{Running}
-use Rattle.schedule.specs.declared.record.Record.{Record}
 use Rattle.schedule.specs.declared.record.Record.TheVariants.{Open}
 use Rattle.build.specs.Changes.{Changed}
 use Rattle.build.specs.Models.{model}

@@ -1,4 +1,4 @@
-use Rattle.std.proofs.Common.{◌<◌, sym, ◌∙◌, arith}
+use Rattle.std.proofs.Common.{◌<◌, sym, arith}
 use Rattle.build.specs.Models.{model}
 use Rattle.build.specs.Turns.{runs_as_job}
 use Rattle.build.proofs.Seeking.{those_one, those_on, those_none}

@@ -1,4 +1,4 @@
-use Rattle.std.proofs.Common.{◌≤◌, length, sym, refl, ap, ◌∙◌, subst, arith}
+use Rattle.std.proofs.Common.{◌≤◌, length, sym, ap, ◌∙◌, subst, arith}
 use Rattle.law.specs.Answers.{answering}
 use Rattle.rules.specs.Builds.{Build}
 use Rattle.rules.specs.Ending.{mark, put_one}

@@ -1,4 +1,4 @@
-use Rattle.std.proofs.Common.{◌≡◌, ◌<◌, length, sym, refl, ap, subst, arith}
+use Rattle.std.proofs.Common.{◌<◌, length, refl, ap, subst, arith}
 use Rattle.rules.specs.Builds.{at, with_state}
 use Rattle.rules.specs.Events.{state_of}
 use Rattle.schedule.specs.Records.{size}
@@ -6,7 +6,7 @@ use Rattle.build.specs.Changes.{Changed}
 use Rattle.build.specs.Ended.{ended_build, noted_at}
 use Rattle.build.specs.Lost.{memory}
 use Rattle.build.specs.Models.{model}
-use Rattle.build.specs.Rooms.{unended, unstarted}
+use Rattle.build.specs.Rooms.{unended}
 use Rattle.build.proofs.Altering.{after_end, read_at, changed_by, ended_over, ended_none, ended_unstarted, ended_size, noted_few}
 use Rattle.build.proofs.Fitting.{altered, Noted_in, fits_but, ended_room, one_to_end}
 use Rattle.build.proofs.Shown.{length_hand, noted_long}

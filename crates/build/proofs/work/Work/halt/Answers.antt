@@ -1,5 +1,5 @@
 use Rattle.std.proofs.Common.{◌≡◌, length, sym, ap, ◌∙◌, subst, arith}
-use Rattle.build.proofs.Accepting.{Accepts, call_accepts, called}
+use Rattle.build.proofs.Accepting.{call_accepts, called}
 use Rattle.build.proofs.Halts.{halt_leads, stop_tokens}
 use Rattle.build.proofs.Leading.{ends_here}
 use Rattle.build.specs.Fits.{Fit, Backed}

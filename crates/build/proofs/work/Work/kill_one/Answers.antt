@@ -1,4 +1,4 @@
-use Rattle.std.proofs.Common.{◌≡◌, sym, refl, ap, ◌∙◌, subst, arith}
+use Rattle.std.proofs.Common.{◌≡◌, refl, ap, ◌∙◌, arith}
 use Rattle.law.specs.Answers.{answering}
 use Rattle.rules.specs.Builds.{Build}
 use Rattle.rules.specs.Ending.{end_node}

@@ -1,4 +1,4 @@
-use Rattle.std.proofs.Common.{◌≡◌, ◌<◌, length, vec_capacity, sym, refl, ap, ◌∙◌, subst, arith}
+use Rattle.std.proofs.Common.{◌<◌, length, vec_capacity, sym, refl, ap, ◌∙◌, subst, arith}
 use Rattle.rules.specs.Builds.{at, with_node}
 use Rattle.rules.specs.Ending.{marked}
 use Rattle.build.specs.Ended.{marked_build}

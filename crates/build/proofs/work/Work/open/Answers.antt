@@ -1,9 +1,9 @@
-use Rattle.std.proofs.Common.{◌≡◌, ℕ, ◌+◌, ◌<◌, ◌≤◌, [], length, vec_capacity, sym, refl, ap, ◌∙◌, subst, arith}
+use Rattle.std.proofs.Common.{◌≡◌, ◌+◌, length, vec_capacity, sym, ap, ◌∙◌, subst, arith}
 use Rattle.law.specs.Answers.{answering}
 use Rattle.pool.specs.Meaning.{total}
 use Rattle.rules.specs.Builds.{Build, at, begun_on, in_state}
 use Rattle.rules.specs.Calls.{bit, noted}
-use Rattle.rules.specs.Plans.{Plan, plan_of, needed}
+use Rattle.rules.specs.Plans.{plan_of}
 use Rattle.rules.specs.Settling.{settle}
 use Rattle.rules.specs.declared.progress.Progress.{Progress}
 use Rattle.rules.specs.declared.progress.State.TheVariants.{Running}
@@ -18,7 +18,6 @@ use Rattle.build.specs.Rooms.{room}
 use Rattle.build.proofs.Fresh.{fresh_fits, fresh_room, fresh_waits, open_accepts}
 use Rattle.build.proofs.Handing.{in_hands_none}
 use Rattle.build.proofs.Leading.{leads_then, leads_end, ran}
-use Rattle.build.proofs.Settles.{point}
 use Rattle.build.proofs.Steps.{begun_leads}
 use Rattle.build.proofs.work.Work.open.Goals as goal
 

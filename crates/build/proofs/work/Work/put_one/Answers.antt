@@ -1,4 +1,4 @@
-use Rattle.std.proofs.Common.{◌≡◌, vec_capacity, sym, refl, ap, ◌∙◌, subst, arith}
+use Rattle.std.proofs.Common.{◌≡◌, vec_capacity, sym, refl, ap, subst, arith}
 use Rattle.rules.specs.Builds.{Build, with_tokens}
 use Rattle.build.specs.Lost.{memory}
 use Rattle.build.specs.Fits.{Fit, Fits, Backed}

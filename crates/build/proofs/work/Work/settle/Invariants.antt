@@ -1,4 +1,4 @@
-use Rattle.std.proofs.Common.{◌≤◌, vec_items}
+use Rattle.std.proofs.Common.{vec_items}
 use Rattle.build.specs.Changes.{here, reach}
 use Rattle.build.specs.Rooms.{to_start}
 use Rattle.build.specs.Turning.{Kept}

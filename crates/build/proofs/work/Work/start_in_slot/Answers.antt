@@ -1,4 +1,4 @@
-use Rattle.std.proofs.Common.{◌≡◌, ◌<◌, length, refl, ap, arith}
+use Rattle.std.proofs.Common.{◌<◌, length, refl, ap, arith}
 use Rattle.rules.specs.Builds.{at, in_state, with_node, with_state}
 use Rattle.rules.specs.declared.progress.State.TheVariants.{Running}
 use Rattle.build.specs.Models.{model}

@@ -1,4 +1,4 @@
-use Rattle.std.proofs.Common.{◌+◌, ◌∷◌, sym, refl, ap, ◌∙◌, subst, arith}
+use Rattle.std.proofs.Common.{◌+◌, sym, refl, ap, ◌∙◌, subst, arith}
 use Rattle.rules.specs.Builds.{Build}
 use Rattle.build.specs.Fits.{Backed}
 use Rattle.build.specs.Models.{may_start, model}

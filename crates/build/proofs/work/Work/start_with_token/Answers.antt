@@ -1,4 +1,4 @@
-use Rattle.std.proofs.Common.{◌≡◌, ◌<◌, ◌∷◌, length, vec_items, vec_capacity, sym, refl, ap, subst, arith}
+use Rattle.std.proofs.Common.{◌<◌, ◌∷◌, length, vec_capacity, sym, refl, ap, subst, arith}
 use Rattle.rules.specs.Builds.{Build, at, in_state, with_tokens, with_state}
 use Rattle.rules.specs.declared.progress.State.TheVariants.{Running}
 use Rattle.build.proofs.Shown.{length_hand}

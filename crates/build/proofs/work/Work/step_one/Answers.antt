@@ -1,4 +1,4 @@
-use Rattle.std.proofs.Common.{◌≡◌, ◌+◌, ◌<◌, ◌≤◌, length, get_or, vec_capacity, sym, refl, ap, ◌∙◌, subst, arith}
+use Rattle.std.proofs.Common.{◌≡◌, ◌+◌, ◌<◌, ◌≤◌, length, vec_capacity, sym, refl, ap, ◌∙◌, subst, arith}
 use Rattle.rules.specs.Builds.{Build, unbegun, at, with_node}
 use Rattle.rules.specs.Calls.{stepped}
 use Rattle.std.proofs.lemmas.List.{get_or-set_same}

@@ -1,8 +1,7 @@
-use Rattle.std.proofs.Common.{◌≡◌, ◌<◌, sym, refl, ap, ◌∙◌, subst, arith}
+use Rattle.std.proofs.Common.{◌≡◌, sym, ap, ◌∙◌, subst, arith}
 use Rattle.rules.specs.Builds.{Build, at}
 use Rattle.rules.specs.Calls.{last_step}
 use Rattle.rules.specs.Events.{state_of}
-use Rattle.build.specs.Changes.{reach}
 use Rattle.build.specs.Fits.{Backed}
 use Rattle.build.specs.Models.{model}
 use Rattle.build.proofs.Fitting.{fits_all}
