@@ -18,7 +18,7 @@ use Rattle.std.proofs.lemmas.List.{get_or_read}
 use Rattle.std.proofs.lemmas.Bool.{lt-ltb}
 use Rattle.build.specs.Changes.{Noted, Changed, Remade, reach}
 use Rattle.build.specs.Ended.{ended_record, noted_at}
-use Rattle.build.specs.Fits.{Fit, Fits, Backed}
+use Rattle.build.specs.Fits.{Fit, Fits, Backed, rows_of}
 use Rattle.build.specs.Lost.{memory}
 use Rattle.build.specs.Models.{model, in_hand}
 use Rattle.build.specs.Rooms.{room, unended, unstarted, bytes_left}
@@ -41,22 +41,22 @@ pub read_at : (b : Build) (n : ℕ) (x : Progress) → n < length b.nodes → x 
 read_at b n x inside e = get_or_read b.nodes n x inside e unbegun
 
 -- a change of the build alone, and then the record
-pub changed_by : (e : Work) {e₁ e' : Work} {old new : List ℕ} (b : Build) {r : Record} (spare : ℕ) → Noted e₁ old r e' new → e₁.written ≡ e.written → model e₁ ≡ b → Fits b (vec_capacity e₁.tokens.held) (memory e₁.losses) (vec_capacity e₁.nodes) → room b + size r + spare ≤ room (model e) → Changed e old b r spare e' new
+pub changed_by : (e : Work) {e₁ e' : Work} {old new : List ℕ} (b : Build) {r : Record} (spare : ℕ) → Noted e₁ old r e' new → e₁.written ≡ e.written → model e₁ ≡ b → Fits b (vec_capacity e₁.tokens.held) (memory e₁.losses) (rows_of e₁) → room b + size r + spare ≤ room (model e) → Changed e old b r spare e' new
 changed_by e {e₁} {e'} {old} {new} b {r} spare noted place is fits enough =
     let build : model e' ≡ b = ap model noted.same ∙ is in
     record {
       build = build;
       wrote = subst (λ n. Wrote old n (bytes r) new e'.written) place noted.wrote;
-      fit = subst Fit (sym noted.same) (subst (λ d. Fits d (vec_capacity e₁.tokens.held) (memory e₁.losses) (vec_capacity e₁.nodes)) (sym is) fits);
+      fit = subst Fit (sym noted.same) (subst (λ d. Fits d (vec_capacity e₁.tokens.held) (memory e₁.losses) (rows_of e₁)) (sym is) fits);
       spent = omega (arith, noted.wrote.end, ap room build);
     }
 
 -- a change of the build without a record
-pub remade_by : (e e' : Work) (b : Build) → e'.written ≡ e.written → model e' ≡ b → Fits b (vec_capacity e'.tokens.held) (memory e'.losses) (vec_capacity e'.nodes) → room b ≤ room (model e) → Remade e b e'
+pub remade_by : (e e' : Work) (b : Build) → e'.written ≡ e.written → model e' ≡ b → Fits b (vec_capacity e'.tokens.held) (memory e'.losses) (rows_of e') → room b ≤ room (model e) → Remade e b e'
 remade_by e e' b place is fits falls = record {
   build = is;
   written = place;
-  fit = subst (λ d. Fits d (vec_capacity e'.tokens.held) (memory e'.losses) (vec_capacity e'.nodes)) (sym is) fits;
+  fit = subst (λ d. Fits d (vec_capacity e'.tokens.held) (memory e'.losses) (rows_of e')) (sym is) fits;
   spent = omega (arith, ap room is);
 }
 

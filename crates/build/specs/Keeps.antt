@@ -1,5 +1,6 @@
 -- What every build keeps between two calls, fact by fact: it fits its memory, and it is sound.
 use Rattle.std.specs.Prelude.{◌≡◌, ℕ, ◌+◌, ◌-◌, ◌*◌, ◌<◌, ◌≤◌, Bool, true, false, length, vec_len, vec_capacity}
+use Rattle.build.specs.Fits.{rows_of}
 use Rattle.build.specs.Models.{model}
 use Rattle.build.specs.Rooms.{to_start, to_end}
 use Rattle.build.specs.declared.work.Work.{Work}
@@ -13,7 +14,7 @@ use Rattle.rules.specs.declared.progress.State.TheVariants.{Waiting, Running, Go
 -- there is memory for the tokens in hand, those noted and the nodes of every tree
 abbrev pub Housed : Work → Type 0
 Housed e =
-    (200 ≤ vec_capacity e.tokens.held) × (200 ≤ vec_capacity e.losses.jobs) × (40000 ≤ vec_capacity e.losses.bytes) × (200 ≤ vec_capacity e.nodes)
+    (200 ≤ vec_capacity e.tokens.held) × (200 ≤ vec_capacity e.losses.jobs) × (40000 ≤ vec_capacity e.losses.bytes) × (200 ≤ rows_of e)
 
 -- every node has its place; of tokens in hand and tokens noted there are only so many
 abbrev pub Numbered : Work → Type 0

@@ -49,7 +49,7 @@ fn total_in<P: Lender>(pool: &P) -> u32
 pub(crate) fn unopened(heap: Global) -> Result<Work, AllocError>
     ensures result { IfOk result (λ e. Fresh e.tree false e × (nodes_of e.tree ≡ fresh)) }
 {
-    let tree = Tree::new(heap)?;
+    let tree = Tree::with_room(heap)?;
     let count = tree.count() as usize;
     let mut nodes = Vec::with_capacity(heap, MOST_NODES)?;
     nodes.resize(count, UNBEGUN)?;
@@ -75,7 +75,7 @@ impl Work {
         ensures after { Fresh tree.now keep self.new }
     {
         let count = tree.count() as usize;
-        self.tree.copy_from(tree);
+        let _ = self.tree.copy_from(tree);
         self.keep = keep;
         self.nodes.clear();
         let _ = self.nodes.resize(count, UNBEGUN);

@@ -191,3 +191,21 @@ fn totals(rt: HostRuntime) -> Result<(), Fail> {
     assert!(rt; tree.kind(7).is_err());
     Ok(())
 }
+
+// A copy in the memory of a tree with room, and of one that has too little.
+#[test]
+fn copies(rt: HostRuntime) -> Result<(), Fail> {
+    let mut tree = Tree::new(rt.alloc())?;
+    read_script(&mut tree, rt.alloc(), MIXED.as_bytes())?;
+    let mut roomy = Tree::with_room(rt.alloc())?;
+    assert_eq!(rt; roomy.count(), 2);
+    roomy.copy_from(&tree)?;
+    assert_eq!(rt; roomy.count(), 7);
+    assert_eq!(rt; roomy.steps(4)?, 2);
+    assert_eq!(rt; roomy.total_steps(), 7);
+    let mut small = Tree::new(rt.alloc())?;
+    small.copy_from(&tree)?;
+    assert_eq!(rt; small.count(), 7);
+    assert!(rt; small.wait(6)?);
+    Ok(())
+}

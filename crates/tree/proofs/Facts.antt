@@ -231,14 +231,13 @@ module _ (g : Growing) where
       make_facts (vec_items g.nodes) (vec_items g.outer) g.make (facts_of g) (make_node (growth g)) refl
       (ap (λ l. l + 1) level_is) (omega (arith, level_is)) refl g.waits n (omega (arith, g.counted.2)) refl
 
--- what a tree keeps beside its room
+-- what a tree keeps
 abbrev pub TreeFacts : List Node → ℕ → Type 0
 TreeFacts ns steps = Counted ns × Topped ns × Placed ns × Together ns × Levelled ns × Sized ns × Parted ns × Fed ns × (steps ≡ total ns)
 
--- the same by the names of the fields, with R of the room
-pub tree_kept : {R : Type 0} (ns : List Node) (steps : ℕ) → R → TreeFacts ns steps → record { room : R; counted : Counted ns; topped : Topped ns; placed : Placed ns; together : Together ns; levelled : Levelled ns; sized : Sized ns; parted : Parted ns; fed : Fed ns; summed : steps ≡ total ns }
-tree_kept ns steps r f = record {
-  room = r;
+-- the same by the names of the fields
+pub tree_kept : (ns : List Node) (steps : ℕ) → TreeFacts ns steps → record { counted : Counted ns; topped : Topped ns; placed : Placed ns; together : Together ns; levelled : Levelled ns; sized : Sized ns; parted : Parted ns; fed : Fed ns; summed : steps ≡ total ns }
+tree_kept ns steps f = record {
   counted = f.0;
   topped = f.1;
   placed = f.2;
@@ -250,7 +249,7 @@ tree_kept ns steps r f = record {
   summed = f.8;
 }
 
--- what a tree keeps
+-- so it is of each tree
 pub facts_of_tree : (t : Tree) → TreeFacts (vec_items t.nodes) t.steps
 facts_of_tree t = (t.counted, t.topped, t.placed, t.together, t.levelled, t.sized, t.parted, t.fed, t.summed)
 

@@ -3,3 +3,4 @@ pub mod Kept
 pub mod Questions
 pub mod Growth
 pub mod Grown
+pub mod Copying

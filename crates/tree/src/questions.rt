@@ -5,7 +5,6 @@ ghost use Rattle.tree.specs.Questions.{count_of, kind_of, make_of, level_of, ste
 ghost use Rattle.tree.specs.declared.questions.Unanswered.TheVariants.{NoMemory};
 ghost use Rattle.tree.specs.Questions.{nodes_of, fresh, front_of, subtree_of, Listed, ChildlessJob, WholeSubtree};
 
-use crate::growth::MAX_NODES;
 use crate::node::{Kind, Node};
 use crate::tree::Tree;
 use std::alloc::{AllocError, AllocFailed, Global};
@@ -46,7 +45,7 @@ impl Tree {
     pub fn new(heap: Global) -> Result<Tree, AllocError>
         ensures result { IfOk result (λ t. nodes_of t ≡ fresh) }
     {
-        let mut nodes = Vec::with_capacity(heap, MAX_NODES)?;
+        let mut nodes = Vec::with_capacity(heap, 2)?;
         nodes.push_reserved(Node {
             kind: Kind::Make,
             make: 0,

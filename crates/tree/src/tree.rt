@@ -1,5 +1,5 @@
-// A tree, with what every tree that can be held keeps. Each has memory for as many nodes as a tree can have.
-ghost use Rattle.std.specs.Prelude.{◌≡◌, ◌≤◌, vec_capacity};
+// A tree, with what every tree that can be held keeps.
+ghost use Rattle.std.specs.Prelude.{◌≡◌};
 ghost use Rattle.tree.specs.Nodes.{total};
 ghost use Rattle.tree.specs.Kept.{Counted, Topped, Placed, Together, Levelled, Sized, Parted, Fed};
 
@@ -9,7 +9,6 @@ use crate::node::Node;
 pub struct Tree {
     pub(crate) nodes: Vec<Node>,
     pub(crate) steps: u32,
-    ghost room: { 200 ≤ vec_capacity nodes },
     ghost counted: { Counted nodes.items },
     ghost topped: { Topped nodes.items },
     ghost placed: { Placed nodes.items },

@@ -27,9 +27,9 @@ returns c =
           jobs = omega (arith, jobs.capacity);
           notes = omega (arith, bytes.capacity);
           none = bytes.len;
-          rows = omega (arith, empty.capacity, resized.capacity);
+          rows = omega (arith, empty.capacity, resized.capacity, c.in_ok-tree.ensures.result.1);
           written = refl;
         },
-        c.in_ok-tree.ensures.result,
+        c.in_ok-tree.ensures.result.0,
       );
     }

@@ -3,7 +3,7 @@ use Rattle.rules.specs.Builds.{at, with_node}
 use Rattle.rules.specs.Ending.{marked}
 use Rattle.build.specs.Ended.{marked_build}
 use Rattle.build.specs.Lost.{memory}
-use Rattle.build.specs.Fits.{Fits}
+use Rattle.build.specs.Fits.{Fits, rows_of}
 use Rattle.build.specs.Models.{model}
 use Rattle.build.specs.Rooms.{room}
 use Rattle.build.proofs.Altering.{read_at, remade_by}
@@ -23,6 +23,6 @@ returns-in-Failed c =
     let how = ap (λ h. marked_build h m n b) (sym c.in-Failed.is) in
     record {
       after = remade_by e _ (marked_build c.args.how m n b) refl (ap (with_node b m) node ∙ how)
-          (subst (λ d. Fits d (vec_capacity e.tokens.held) (memory e.losses) (vec_capacity e.nodes)) how (fits_set b m x b.tokens fits c.requires.node (omega arith) refl (omega arith)))
+          (subst (λ d. Fits d (vec_capacity e.tokens.held) (memory e.losses) (rows_of e)) how (fits_set b m x b.tokens fits c.requires.node (omega arith) refl (omega arith)))
           (omega (arith, same_room b m place x refl refl, ap room how));
     }

@@ -12,7 +12,7 @@ use Rattle.schedule.specs.Records.{bytes}
 use Rattle.schedule.specs.declared.record.Record.TheVariants.{Open}
 use Rattle.tree.specs.Questions.{nodes_of}
 use Rattle.build.specs.Lost.{memory}
-use Rattle.build.specs.Fits.{Fits, Backed}
+use Rattle.build.specs.Fits.{Fits, Backed, rows_of}
 use Rattle.build.specs.Models.{model}
 use Rattle.build.specs.Rooms.{room}
 use Rattle.build.proofs.Fresh.{fresh_fits, fresh_room, fresh_waits, open_accepts}
@@ -29,7 +29,7 @@ begin-requires g c =
     let fresh = c.renew.ensures.after in
     let long = open_accepts (plan_of (nodes_of t)) (total (g.P.Lender.ways.means c.args.pool.now).outs) (length c.args.buffer.now) c.in_default.ensures in
     record {
-      fit = subst (λ d. Fits d (vec_capacity e.tokens.held) (memory e.losses) (vec_capacity e.nodes)) (sym fresh.build) (fresh_fits t keep _ _ _ fresh.hands fresh.jobs fresh.notes fresh.none fresh.rows);
+      fit = subst (λ d. Fits d (vec_capacity e.tokens.held) (memory e.losses) (rows_of e)) (sym fresh.build) (fresh_fits t keep _ _ _ fresh.hands fresh.jobs fresh.notes fresh.none fresh.rows);
       waits = ap (λ (d : Build). (at d 0).state) fresh.build ∙ ap (λ (x : Progress). x.state) (fresh_waits (plan_of (nodes_of t)) keep 0);
       few = omega (arith, c.total_in-tokens.ensures, (g.met.P.Lender.bounded c.args.pool.now).few);
       room = omega (arith, long, fresh.written, ap room fresh.build, fresh_room t keep);

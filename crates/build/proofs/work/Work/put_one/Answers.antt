@@ -1,7 +1,7 @@
 use Rattle.std.proofs.Common.{◌≡◌, vec_capacity, sym, refl, ap, subst, arith}
 use Rattle.rules.specs.Builds.{Build, with_tokens}
 use Rattle.build.specs.Lost.{memory}
-use Rattle.build.specs.Fits.{Fit, Fits, Backed}
+use Rattle.build.specs.Fits.{Fit, Fits, Backed, rows_of}
 use Rattle.build.specs.Models.{model, in_hand}
 use Rattle.build.specs.Rooms.{room}
 use Rattle.build.proofs.Fitting.{fits_fewer}
@@ -18,7 +18,7 @@ returns-in_default g c =
     record {
       after = put_none_leads w b c.args.m _ _ _ e.written (omega (arith, c.requires.room)) none.0 (ap (with_tokens b) same);
       kept = record {
-        fit = subst (λ h. Fits (with_tokens b (in_hand c.give_back.new.self)) h (memory e.losses) (vec_capacity e.nodes)) (sym c.in_default.ensures.capacity) (subst (λ ts. Fits (with_tokens b ts) (vec_capacity e.tokens.held) (memory e.losses) (vec_capacity e.nodes)) (sym same) c.requires.fit);
+        fit = subst (λ h. Fits (with_tokens b (in_hand c.give_back.new.self)) h (memory e.losses) (rows_of e)) (sym c.in_default.ensures.capacity) (subst (λ ts. Fits (with_tokens b ts) (vec_capacity e.tokens.held) (memory e.losses) (rows_of e)) (sym same) c.requires.fit);
         backed = subst (Backed w _) (sym same) c.requires.backed;
         plan = refl;
         keep = refl;
@@ -44,7 +44,7 @@ returns g c =
     record {
       after = put_one_leads w b c.args.m _ c.in-Some.byte left found back is noted.wrote;
       kept = record {
-        fit = subst Fit (sym noted.same) (subst (λ h. Fits (with_tokens b left) h (memory e.losses) (vec_capacity e.nodes)) (sym c.in-Some.ensures.capacity) (fits_fewer b left c.requires.fit (omega (arith, fewer.long))));
+        fit = subst Fit (sym noted.same) (subst (λ h. Fits (with_tokens b left) h (memory e.losses) (rows_of e)) (sym c.in-Some.ensures.capacity) (fits_fewer b left c.requires.fit (omega (arith, fewer.long))));
         backed = subst (Backed w _) (sym (ap (λ (d : Build). d.tokens) is)) (backed_fewer w _ _ c.args.m b.tokens c.in-Some.byte left c.requires.backed found (g.met.P.Lender.returned _ _ _ back));
         plan = ap (λ (d : Build). d.plan) is;
         keep = ap (λ (d : Build). d.keep) is;

@@ -1,9 +1,9 @@
-use Rattle.std.proofs.Common.{◌<◌, ◌∷◌, length, vec_capacity, sym, refl, ap, subst, arith}
+use Rattle.std.proofs.Common.{◌<◌, ◌∷◌, length, sym, refl, ap, subst, arith}
 use Rattle.rules.specs.Builds.{Build, at, in_state, with_tokens, with_state}
 use Rattle.rules.specs.declared.progress.State.TheVariants.{Running}
 use Rattle.build.proofs.Shown.{length_hand}
 use Rattle.build.specs.Lost.{memory}
-use Rattle.build.specs.Fits.{Fits}
+use Rattle.build.specs.Fits.{Fits, rows_of}
 use Rattle.build.specs.Models.{model}
 use Rattle.build.specs.Rooms.{unended, unstarted}
 use Rattle.build.proofs.Altering.{after_start, read_at, changed_by}
@@ -37,7 +37,7 @@ returns c =
     let after : Build = with_tokens (in_state b n Running) ts in
     record {
       after = changed_by e after 0 c.note.ensures.after refl (λ i. altered b n (node i) (c.take_up.ensures.after i) b.losses)
-          (subst (λ h. Fits after h (memory e.losses) (vec_capacity e.nodes)) (sym c.take_up.ensures.capacity)
+          (subst (λ h. Fits after h (memory e.losses) (rows_of e)) (sym c.take_up.ensures.capacity)
           (fits_set b n (with_state (at b n) Running) ts fits may.child (omega (arith, ap unended may.unbegun)) refl (omega (arith, ap unstarted may.unbegun))))
           (omega (arith, started_room b n place may.unbegun));
     }

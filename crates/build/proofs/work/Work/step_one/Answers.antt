@@ -3,7 +3,7 @@ use Rattle.rules.specs.Builds.{Build, unbegun, at, with_node}
 use Rattle.rules.specs.Calls.{stepped}
 use Rattle.std.proofs.lemmas.List.{get_or-set_same}
 use Rattle.build.specs.Lost.{memory}
-use Rattle.build.specs.Fits.{FitsBut, FitBut}
+use Rattle.build.specs.Fits.{FitsBut, FitBut, rows_of}
 use Rattle.build.specs.Models.{model}
 use Rattle.build.specs.Rooms.{room, unended}
 use Rattle.build.specs.Working.{stepped_build}
@@ -39,7 +39,7 @@ returns c =
       after = record {
         build = build;
         wrote = noted.wrote;
-        fit = subst (FitBut n) (sym noted.same) (subst (λ x. FitsBut n (with_node b n x) (vec_capacity e.tokens.held) (memory e.losses) (vec_capacity e.nodes)) (sym node) fit);
+        fit = subst (FitBut n) (sym noted.same) (subst (λ x. FitsBut n (with_node b n x) (vec_capacity e.tokens.held) (memory e.losses) (rows_of e)) (sym node) fit);
         done = subst (λ (d : Build). (at d n).done ≤ d.plan.steps n) (sym build) (omega (arith, less));
         spent = omega (arith, noted.wrote.end, ap room build, stepped_room b n place runs less);
       };

@@ -23,7 +23,7 @@ invariant_of-result c =
     let g = c.args.self in
     let none = nil_from_length (vec_items g.outer) (omega (arith, eqb-true _ 0 (sym c.if-not-is_empty.ensures), g.outer.ok.0)) in
     let facts = subst (λ o. Facts (vec_items g.nodes) o g.make) none (facts_of g) in
-    tree_kept _ _ g.room.0 (g.counted, g.topped, g.placed, g.together, g.levelled, g.sized, g.parted, all_fed _ _ facts (λ e. absurd (c.if-len-eq1.false (omega (arith, g.nodes.ok.0)))), g.summed)
+    tree_kept _ _ (g.counted, g.topped, g.placed, g.together, g.levelled, g.sized, g.parted, all_fed _ _ facts (λ e. absurd (c.if-len-eq1.false (omega (arith, g.nodes.ok.0)))), g.summed)
 
 pub returns : goal.returns
 returns c =

@@ -1,4 +1,4 @@
-use Rattle.std.proofs.Common.{◌≡◌, [], ◌∷◌, ◌++◌, vec_items, sym, ap, ◌∙◌, subst, arith}
+use Rattle.std.proofs.Common.{◌≡◌, [], ◌∷◌, ◌++◌, vec_items, sym, ap, ◌∙◌, subst}
 use Rattle.tree.specs.Nodes.{top}
 use Rattle.tree.specs.Questions.{fresh, first_job}
 use Rattle.tree.proofs.Facts.{TreeFacts, tree_kept, fresh_facts}
@@ -9,4 +9,4 @@ invariant_of-result c =
     let none = c.in_ok-nodes.ensures in
     let two : vec_items c.push_reserved-2.new.self ≡ fresh =
     c.push_reserved-2.ensures.items ∙ ap (λ l. l ++ first_job ∷ []) (c.push_reserved.ensures.items ∙ ap (λ l. l ++ top ∷ []) none.items) in
-    tree_kept _ _ (omega (arith, none.capacity, c.push_reserved.ensures.capacity, c.push_reserved-2.ensures.capacity)) (subst (λ ns. TreeFacts ns 1) (sym two) fresh_facts)
+    tree_kept _ _ (subst (λ ns. TreeFacts ns 1) (sym two) fresh_facts)
