@@ -51,7 +51,6 @@ abbrev pub tree_z : Tree
 tree_z = record {
   nodes = record { ptr = null_ptr; len = 7; cap = 200; alloc = record { memory = record { seal = tt } }; items = nodes_z; ok = (refl, lit≤ tt); small = lit< tt };
   steps = 7;
-  room = lit≤ tt;
   counted = facts_z.0;
   topped = facts_z.1;
   placed = facts_z.2;
