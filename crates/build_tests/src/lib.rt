@@ -1,0 +1,5 @@
+// Tables of calls on builds, with the records and answers that the rules give.
+#![tactic(auto)]
+
+#[cfg(test)]
+mod worked;
