@@ -11,7 +11,7 @@ use Rattle.rules.specs.declared.progress.State.TheVariants.{Waiting, Running, Go
 use Rattle.std.proofs.lemmas.List.{length-reverse, get_or-set_same, get_or-set_other}
 use Rattle.std.proofs.lemmas.Bool.{cases_eq}
 use Rattle.build.specs.Fits.{StepsLeft, FitsBut, Fits}
-use Rattle.build.specs.Lost.{Room}
+use Rattle.build.specs.Lost.{Memory}
 use Rattle.build.specs.Rooms.{unstarted, unended, to_start, to_end, bytes_left, node_room, room}
 use Rattle.build.proofs.Sums.{sum_set, sum_point}
 
@@ -50,15 +50,15 @@ abbrev pub altered : Build → ℕ → Progress → List Held → List Loss → 
 altered b n y ts ls = record { plan = b.plan; keep = b.keep; nodes = set b.nodes n y; tokens = ts; losses = ls }
 
 -- what is noted afterwards, in the same memory
-pub record Noted_in (notes notes' : Room) (more : ℕ) : Type 0 where
+pub record NotedIn (notes notes' : Memory) (more : ℕ) : Type 0 where
   pub jobs : notes'.jobs ≡ notes.jobs
   pub most : notes'.most ≡ notes.most
   pub used : notes'.used ≤ notes.used + more
 
-pub noted_none : (notes : Room) → Noted_in notes notes 0
+pub noted_none : (notes : Memory) → NotedIn notes notes 0
 noted_none notes = record { jobs = refl; most = refl; used = omega arith }
 
-pub fits_but : (b : Build) (n : ℕ) (y : Progress) (ts : List Held) (ls : List Loss) (m m' : ℕ) {hands : ℕ} {notes notes' : Room} {rows : ℕ} (more : ℕ) → ((k : ℕ) → (k ≡ m' → ⊥) → (k ≡ n → ⊥) → k ≡ m → ⊥) → FitsBut m b hands notes rows → n < b.plan.nodes → ((n ≡ m' → ⊥) → is_make b.plan n ≡ false → unended y.state ≡ 1 → y.done < b.plan.steps n) → length ts + unstarted y.state ≤ length b.tokens + unstarted (at b n).state → length ls + unended y.state ≤ length b.losses + unended (at b n).state → more + 200 * unended y.state ≤ 200 * unended (at b n).state → Noted_in notes notes' more → FitsBut m' (altered b n y ts ls) hands notes' rows
+pub fits_but : (b : Build) (n : ℕ) (y : Progress) (ts : List Held) (ls : List Loss) (m m' : ℕ) {hands : ℕ} {notes notes' : Memory} {rows : ℕ} (more : ℕ) → ((k : ℕ) → (k ≡ m' → ⊥) → (k ≡ n → ⊥) → k ≡ m → ⊥) → FitsBut m b hands notes rows → n < b.plan.nodes → ((n ≡ m' → ⊥) → is_make b.plan n ≡ false → unended y.state ≡ 1 → y.done < b.plan.steps n) → length ts + unstarted y.state ≤ length b.tokens + unstarted (at b n).state → length ls + unended y.state ≤ length b.losses + unended (at b n).state → more + 200 * unended y.state ≤ 200 * unended (at b n).state → NotedIn notes notes' more → FitsBut m' (altered b n y ts ls) hands notes' rows
 fits_but b n y ts ls m m' more but fits inside changed held listed lost noted =
     let place : n < length b.nodes = omega (arith, fits.whole) in
     let starts = sum_set (λ _ x. unstarted x.state) y unbegun b.nodes n place in
@@ -77,7 +77,7 @@ fits_but b n y ts ls m m' more but fits inside changed held listed lost noted =
     }
 
 -- the same of every job, where the changed node does or leaves no less
-pub fits_set : (b : Build) (n : ℕ) (y : Progress) (ts : List Held) {hands : ℕ} {notes : Room} {rows : ℕ} → Fits b hands notes rows → n < b.plan.nodes → unended y.state ≤ unended (at b n).state → y.done ≡ (at b n).done → length ts + unstarted y.state ≤ length b.tokens + unstarted (at b n).state → Fits (altered b n y ts b.losses) hands notes rows
+pub fits_set : (b : Build) (n : ℕ) (y : Progress) (ts : List Held) {hands : ℕ} {notes : Memory} {rows : ℕ} → Fits b hands notes rows → n < b.plan.nodes → unended y.state ≤ unended (at b n).state → y.done ≡ (at b n).done → length ts + unstarted y.state ≤ length b.tokens + unstarted (at b n).state → Fits (altered b n y ts b.losses) hands notes rows
 fits_set b n y ts {hands} {notes} {rows} fits inside falls done held =
     fits_but b n y ts b.losses b.plan.nodes b.plan.nodes 0 (λ k other apart. other) fits inside
     (λ other job u. omega (arith, fits.steps n other inside job (still (at b n).state (omega arith)))) held (omega arith) (omega arith) (noted_none notes)
@@ -89,11 +89,11 @@ fits_set b n y ts {hands} {notes} {rows} fits inside falls done held =
     still (Failed c) h = absurd (omega arith)
 
 -- of every job, and so of every other
-pub fits_other : (m : ℕ) {b : Build} {hands : ℕ} {notes : Room} {rows : ℕ} → Fits b hands notes rows → FitsBut m b hands notes rows
+pub fits_other : (m : ℕ) {b : Build} {hands : ℕ} {notes : Memory} {rows : ℕ} → Fits b hands notes rows → FitsBut m b hands notes rows
 fits_other m {b} fits = record { whole = fits.whole; small = fits.small; steps = λ k other within. fits.steps k (λ e. omega arith) within; few = fits.few; room = fits.room; ample = fits.ample; spare = fits.spare; wide = fits.wide; listed = fits.listed; noted = fits.noted }
 
 -- fewer tokens in hand
-pub fits_fewer : (b : Build) (ts : List Held) {hands : ℕ} {notes : Room} {rows : ℕ} → Fits b hands notes rows → length ts ≤ length b.tokens → Fits (with_tokens b ts) hands notes rows
+pub fits_fewer : (b : Build) (ts : List Held) {hands : ℕ} {notes : Memory} {rows : ℕ} → Fits b hands notes rows → length ts ≤ length b.tokens → Fits (with_tokens b ts) hands notes rows
 fits_fewer b ts fits fewer = record { whole = fits.whole; small = fits.small; steps = fits.steps; few = omega (arith, fits.few); room = fits.room; ample = fits.ample; spare = fits.spare; wide = fits.wide; listed = fits.listed; noted = fits.noted }
 
 -- those that pass a test are no more
@@ -150,7 +150,7 @@ pub one_to_end : (b : Build) (n : ℕ) → n < length b.nodes → (at b n).state
 one_to_end b n inside is = omega (arith, sum_point (λ _ x. unended x.state) unbegun b.nodes n inside, ap unended is)
 
 -- once the node has a step left, it holds of every job
-pub fits_all : (n : ℕ) (b : Build) {hands : ℕ} {notes : Room} {rows : ℕ} → FitsBut n b hands notes rows → (at b n).done < b.plan.steps n → Fits b hands notes rows
+pub fits_all : (n : ℕ) (b : Build) {hands : ℕ} {notes : Memory} {rows : ℕ} → FitsBut n b hands notes rows → (at b n).done < b.plan.steps n → Fits b hands notes rows
 fits_all n b fits less = record {
   whole = fits.whole;
   small = fits.small;

@@ -15,7 +15,7 @@ use Rattle.tree.specs.Questions.{nodes_of, count_of}
 use Rattle.tree.specs.declared.node.Node.{Node}
 use Rattle.tree.specs.declared.tree.Tree.{Tree}
 use Rattle.build.specs.Fits.{Fits}
-use Rattle.build.specs.Lost.{Room}
+use Rattle.build.specs.Lost.{Memory}
 use Rattle.build.specs.Rooms.{sum_from, unstarted, unended, bytes_left, room}
 
 fresh_at : (k n : ℕ) → get_or (replicate k unbegun) n unbegun ≡ unbegun
@@ -47,7 +47,7 @@ job_steps x fit job =
     omega (arith, leb-true 1 x.steps parts.0)
 
 module _ (t : Tree) (keep : Bool) where
-  pub fresh_fits : (hands : ℕ) (notes : Room) (rows : ℕ) → 200 ≤ hands → 200 ≤ notes.jobs → 40000 ≤ notes.most → notes.used ≡ 0 → 200 ≤ rows → Fits (begun_on (plan_of (nodes_of t)) keep) hands notes rows
+  pub fresh_fits : (hands : ℕ) (notes : Memory) (rows : ℕ) → 200 ≤ hands → 200 ≤ notes.jobs → 40000 ≤ notes.most → notes.used ≡ 0 → 200 ≤ rows → Fits (begun_on (plan_of (nodes_of t)) keep) hands notes rows
   fresh_fits hands notes rows enough ample spare none wide =
       let n = count_of t in
       record {

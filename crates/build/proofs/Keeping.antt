@@ -1,7 +1,7 @@
 -- What every build keeps, as facts and as one statement. Assumes nothing.
 use Rattle.std.proofs.Common.{◌≡◌, ℕ, ◌<◌, true, false, refl, ap, inl, arith}
 use Rattle.build.specs.Fits.{Fit}
-use Rattle.build.specs.Keeps.{Housed, Numbered, Lives, Paid, Works, is_good, AllGood, Blamed, Goes_on, AllDone, Idles, Untouched, Unstopped, StoppedWhy, Roomy}
+use Rattle.build.specs.Keeps.{Housed, Numbered, Lives, Paid, Works, is_good, AllGood, Blamed, GoesOn, AllDone, Idles, Untouched, Unstopped, StoppedWhy, Roomy}
 use Rattle.build.specs.Models.{model, status}
 use Rattle.build.specs.Rooms.{unended}
 use Rattle.build.specs.declared.state.Build.{Build as BuildOf}
@@ -30,7 +30,7 @@ Kept e = record {
   works : Works e;
   good : AllGood e;
   blamed : Blamed e;
-  going : Goes_on e;
+  going : GoesOn e;
   done : AllDone e;
   idles : Idles e;
   untouched : Untouched e;

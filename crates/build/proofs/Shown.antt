@@ -13,9 +13,13 @@ use Rattle.build.specs.declared.tokens.Token.{Token}
 use Rattle.build.specs.declared.tokens.Tokens.{Tokens}
 use Rattle.build.proofs.Handing.{last_first}
 
--- what was read at its place
-pub held_read : (ts : List Token) (i : ℕ) (x : Token) → i < length ts → x ≡ get_or ts i x → held x ≡ get_or (map held ts) i (held x)
-held_read ts i x within e = ap held e ∙ sym (get_or-map held ts i x (held x) within)
+-- the token x stands at place i, also as the rules have them
+pub record Stands (ts : List Token) (i : ℕ) (x : Token) : Type 0 where
+  pub within : i < length (map held ts)
+  pub is : held x ≡ get_or (map held ts) i (held x)
+
+pub stands : (ts : List Token) (i : ℕ) (x : Token) → i < length ts → x ≡ get_or ts i x → Stands ts i x
+stands ts i x within e = record { within = omega (arith, length-map ts held); is = ap held e ∙ sym (get_or-map held ts i x (held x) within) }
 
 -- as many tokens are in hand as are kept
 pub length_hand : (t : Tokens) → length (in_hand t) ≡ length t.held.items

@@ -1,7 +1,7 @@
 -- What a build at work keeps between its steps.
 use Rattle.std.specs.Prelude.{◌≡◌, ℕ, ◌+◌, ◌*◌, ◌<◌, ◌≤◌, false, List, length, min, vec_capacity, ◌≢◌}
 use Rattle.build.specs.Hands.{in_hands}
-use Rattle.build.specs.Lost.{Room, memory}
+use Rattle.build.specs.Lost.{Memory, memory}
 use Rattle.build.specs.Models.{model}
 use Rattle.build.specs.Rooms.{unended, to_start, to_end}
 use Rattle.build.specs.declared.work.Work.{Work}
@@ -18,7 +18,7 @@ StepsLeft m b =
 
 -- Every node has its place, and every job but m that has not ended a step left. There is memory for so many tokens in
 -- hand, for what is noted and for so many nodes: enough for every tree, and for all that may still be noted.
-pub record FitsBut (m : ℕ) (b : Build) (hands : ℕ) (notes : Room) (rows : ℕ) : Type 0 where
+pub record FitsBut (m : ℕ) (b : Build) (hands : ℕ) (notes : Memory) (rows : ℕ) : Type 0 where
   pub whole : length b.nodes ≡ b.plan.nodes
   pub small : b.plan.nodes ≤ 200
   pub steps : StepsLeft m b
@@ -35,7 +35,7 @@ abbrev pub rows_of : Work → ℕ
 rows_of e = min (vec_capacity e.nodes) (room_of e.tree)
 
 -- so it is of every job
-abbrev pub Fits : Build → ℕ → Room → ℕ → Type 0
+abbrev pub Fits : Build → ℕ → Memory → ℕ → Type 0
 Fits b hands notes rows = FitsBut b.plan.nodes b hands notes rows
 
 -- so it is of a build at work

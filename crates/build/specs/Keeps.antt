@@ -52,8 +52,8 @@ abbrev pub Blamed : Work → Type 0
 Blamed e = (n : ℕ) → BelowTop (model e).plan n → is_failed (state_of (model e).nodes n) ≡ true → is_some (entry (model e).nodes ((model e).plan.make n)).first_failed ≡ true
 
 -- a running job has steps left
-abbrev pub Goes_on : Work → Type 0
-Goes_on e = (n : ℕ) → n < (model e).plan.nodes → is_make (model e).plan n ≡ false → is_running (state_of (model e).nodes n) ≡ true → (entry (model e).nodes n).done < (model e).plan.steps n
+abbrev pub GoesOn : Work → Type 0
+GoesOn e = (n : ℕ) → n < (model e).plan.nodes → is_make (model e).plan n ≡ false → is_running (state_of (model e).nodes n) ≡ true → (entry (model e).nodes n).done < (model e).plan.steps n
 
 -- one that ended well has none
 abbrev pub AllDone : Work → Type 0

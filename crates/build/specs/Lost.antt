@@ -13,12 +13,12 @@ abbrev pub noted_losses : Losses → List Loss
 noted_losses s = losses_by (reverse s.jobs.items) s.bytes.items
 
 -- the memory for them: for so many jobs and for so many tokens, and how many tokens there are
-pub record Room : Type 0 where
+pub record Memory : Type 0 where
   pub jobs : ℕ
   pub most : ℕ
   pub used : ℕ
 
-abbrev pub memory : Losses → Room
+abbrev pub memory : Losses → Memory
 memory s = record { jobs = vec_capacity s.jobs; most = vec_capacity s.bytes; used = vec_len s.bytes }
 
 -- at most so many tokens more are noted, in the memory that was there

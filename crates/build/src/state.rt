@@ -1,5 +1,5 @@
 // A build: at work, with what every build keeps between two calls.
-ghost use Rattle.build.specs.Keeps.{Housed, Numbered, Lives, Paid, Works, AllGood, Blamed, Goes_on, AllDone, Idles, Untouched, Unstopped, StoppedWhy, Roomy};
+ghost use Rattle.build.specs.Keeps.{Housed, Numbered, Lives, Paid, Works, AllGood, Blamed, GoesOn, AllDone, Idles, Untouched, Unstopped, StoppedWhy, Roomy};
 
 use crate::work::Work;
 
@@ -13,7 +13,7 @@ pub struct Build {
     ghost works: { Works work },
     ghost good: { AllGood work },
     ghost blamed: { Blamed work },
-    ghost going: { Goes_on work },
+    ghost going: { GoesOn work },
     ghost done: { AllDone work },
     ghost idles: { Idles work },
     ghost untouched: { Untouched work },

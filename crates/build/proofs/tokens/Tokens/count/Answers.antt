@@ -1,9 +1,9 @@
-use Rattle.std.proofs.Common.{◌≡◌, ◌-◌, ◌<◌, ◌≤◌, map, reverse, length, take, vec_items, ap, arith}
+use Rattle.std.proofs.Common.{◌≡◌, ◌-◌, map, reverse, take, vec_items, ap, arith}
 use Rattle.std.proofs.lemmas.List.{length-map, take_all}
 use Rattle.build.specs.Hands.{in_hands}
 use Rattle.build.specs.Models.{held}
 use Rattle.build.proofs.Handing.{last_first, in_hands_none, in_hands_one, in_hands_on}
-use Rattle.build.proofs.Shown.{held_read}
+use Rattle.build.proofs.Shown.{stands}
 use Rattle.build.proofs.tokens.Tokens.count.Goals as goal
 
 pub loop-i-init : goal.loop-i-init
@@ -20,9 +20,8 @@ loop-i-preserved-then-index-byte c =
     let i = c.loop-i.i in
     let xs = map held (vec_items own) in
     let x = c.index.result.now in
-    let inside : i - 1 < length (vec_items own) = omega (arith, own.ok.0, c.loop-i-test.true) in
-    let within : i ≤ length xs = omega (arith, own.ok.0, length-map (vec_items own) held) in
-    let next = ap (in_hands c.args.byte) (last_first xs i (held x) c.loop-i-test.true within (held_read (vec_items own) (i - 1) x inside c.index.ensures)) in
+    let at = stands (vec_items own) (i - 1) x (omega (arith, own.ok.0, c.loop-i-test.true)) c.index.ensures in
+    let next = ap (in_hands c.args.byte) (last_first xs i (held x) c.loop-i-test.true (omega (arith, at.within)) at.is) in
     let one = in_hands_one c.args.byte (held x) (reverse (take (i - 1) xs)) c.if-index-byte.true in
     (omega arith, omega arith)
 
@@ -32,9 +31,8 @@ loop-i-preserved c =
     let i = c.loop-i.i in
     let xs = map held (vec_items own) in
     let x = c.index.result.now in
-    let inside : i - 1 < length (vec_items own) = omega (arith, own.ok.0, c.loop-i-test.true) in
-    let within : i ≤ length xs = omega (arith, own.ok.0, length-map (vec_items own) held) in
-    let next = ap (in_hands c.args.byte) (last_first xs i (held x) c.loop-i-test.true within (held_read (vec_items own) (i - 1) x inside c.index.ensures)) in
+    let at = stands (vec_items own) (i - 1) x (omega (arith, own.ok.0, c.loop-i-test.true)) c.index.ensures in
+    let next = ap (in_hands c.args.byte) (last_first xs i (held x) c.loop-i-test.true (omega (arith, at.within)) at.is) in
     let none = in_hands_on c.args.byte (held x) (reverse (take (i - 1) xs)) c.if-index-byte.false in
     (omega arith, omega arith)
 

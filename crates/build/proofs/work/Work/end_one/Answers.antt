@@ -8,7 +8,7 @@ use Rattle.build.specs.Lost.{memory}
 use Rattle.build.specs.Models.{model}
 use Rattle.build.specs.Rooms.{unended}
 use Rattle.build.proofs.Altering.{after_end, read_at, changed_by, ended_over, ended_none, ended_unstarted, ended_size, noted_few}
-use Rattle.build.proofs.Fitting.{altered, Noted_in, fits_but, ended_room, one_to_end}
+use Rattle.build.proofs.Fitting.{altered, NotedIn, fits_but, ended_room, one_to_end}
 use Rattle.build.proofs.Shown.{length_hand, noted_long}
 use Rattle.build.proofs.work.Work.end_one.Goals as goal
 
@@ -44,7 +44,7 @@ returns c =
     let ls = noted_at how n b.plan b.tokens b.losses in
     let falls = ended_room b n place (state_of how) (ended_over how) (ended_none how _) runs in
     let more = c.note_loss.ensures.memory in
-    let grown : Noted_in (memory e.losses) (memory c.note_loss.new.losses) 200 = record { jobs = more.jobs; most = more.most; used = omega (arith, more.used, fits.few, fits.small, length_hand e.tokens, e.tokens.held.ok.0) } in
+    let grown : NotedIn (memory e.losses) (memory c.note_loss.new.losses) 200 = record { jobs = more.jobs; most = more.most; used = omega (arith, more.used, fits.few, fits.small, length_hand e.tokens, e.tokens.held.ok.0) } in
     let fit = fits_but b n (with_state (at b n) (state_of how)) b.tokens ls n b.plan.nodes 200 (λ k other apart. apart) fits inside (λ other job u. absurd (omega (arith, ended_over how))) (omega (arith, ended_unstarted how)) (omega (arith, ended_over how, ap unended runs, noted_few how n b)) (omega (arith, ended_over how, ap unended runs)) grown in
     record {
       after = subst (λ r. Changed e c.args.buffer.now after r 5 c.note.new.self c.note.new.buffer) c.end_record.ensures

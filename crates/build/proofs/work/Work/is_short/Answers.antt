@@ -1,11 +1,11 @@
-use Rattle.std.proofs.Common.{◌-◌, ◌<◌, ◌≤◌, map, reverse, length, vec_items, sym, ap, ◌∙◌, arith}
+use Rattle.std.proofs.Common.{◌-◌, map, reverse, vec_items, sym, ap, ◌∙◌, arith}
 use Rattle.rules.specs.Lists.{any}
 use Rattle.std.proofs.lemmas.List.{length-map, take_all}
 use Rattle.std.proofs.lemmas.Bool.{lt-ltb, le-ltb}
 use Rattle.build.specs.Hands.{short_at, in_hands}
 use Rattle.build.specs.Models.{held, in_hand}
 use Rattle.build.proofs.Handing.{any_front_found, any_front_on, any_front_none}
-use Rattle.build.proofs.Shown.{held_read}
+use Rattle.build.proofs.Shown.{stands}
 use Rattle.build.proofs.work.Work.is_short.Goals as goal
 
 pub loop-i-init : goal.loop-i-init
@@ -20,10 +20,8 @@ returns-then-count_out-count g c =
     let x = c.index.result.now in
     let i = c.loop-i.i in
     let xs = map held (vec_items tokens.held) in
-    let inside : i - 1 < length (vec_items tokens.held) = omega (arith, tokens.held.ok.0, c.loop-i-test.true) in
-    let within : i ≤ length xs = omega (arith, tokens.held.ok.0, length-map (vec_items tokens.held) held) in
-    let read = held_read (vec_items tokens.held) (i - 1) x inside c.index.ensures in
-    sym (any_front_found xs i (held x) c.loop-i-test.true within read (short_at (in_hand tokens) outs) (lt-ltb (outs x.byte) (in_hands x.byte (in_hand tokens)) (omega arith)))
+    let at = stands (vec_items tokens.held) (i - 1) x (omega (arith, tokens.held.ok.0, c.loop-i-test.true)) c.index.ensures in
+    sym (any_front_found xs i (held x) c.loop-i-test.true (omega (arith, at.within)) at.is (short_at (in_hand tokens) outs) (lt-ltb (outs x.byte) (in_hands x.byte (in_hand tokens)) (omega arith)))
     ∙ c.loop-i.invariant
 
 pub loop-i-preserved : goal.loop-i-preserved
@@ -33,10 +31,8 @@ loop-i-preserved g c =
     let x = c.index.result.now in
     let i = c.loop-i.i in
     let xs = map held (vec_items tokens.held) in
-    let inside : i - 1 < length (vec_items tokens.held) = omega (arith, tokens.held.ok.0, c.loop-i-test.true) in
-    let within : i ≤ length xs = omega (arith, tokens.held.ok.0, length-map (vec_items tokens.held) held) in
-    let read = held_read (vec_items tokens.held) (i - 1) x inside c.index.ensures in
-    sym (any_front_on xs i (held x) c.loop-i-test.true within read (short_at (in_hand tokens) outs) (le-ltb (outs x.byte) (in_hands x.byte (in_hand tokens)) (omega arith)))
+    let at = stands (vec_items tokens.held) (i - 1) x (omega (arith, tokens.held.ok.0, c.loop-i-test.true)) c.index.ensures in
+    sym (any_front_on xs i (held x) c.loop-i-test.true (omega (arith, at.within)) at.is (short_at (in_hand tokens) outs) (le-ltb (outs x.byte) (in_hands x.byte (in_hand tokens)) (omega arith)))
     ∙ c.loop-i.invariant
 
 pub returns : goal.returns

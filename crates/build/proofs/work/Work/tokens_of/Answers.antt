@@ -1,8 +1,8 @@
-use Rattle.std.proofs.Common.{◌<◌, eqb, [], ◌∷◌, ◌++◌, map, length, is_ok, vec_items, sym, ap, ◌∙◌, arith}
+use Rattle.std.proofs.Common.{eqb, [], ◌∷◌, ◌++◌, map, is_ok, vec_items, sym, ap, ◌∙◌, arith}
 use Rattle.rules.specs.Builds.{Held}
 use Rattle.std.proofs.lemmas.List.{length-map}
 use Rattle.build.specs.Models.{held}
-use Rattle.build.proofs.Shown.{held_read}
+use Rattle.build.proofs.Shown.{stands}
 use Rattle.std.proofs.ResultArms.{chosen}
 use Rattle.std.proofs.lemmas.Result.{err_from_is_err_and}
 use Rattle.std.proofs.lemmas.Bool.{eq-eqb, ne_eqb}
@@ -20,17 +20,15 @@ loop-i-preserved c =
     let i = c.loop-i.i in
     let xs = map held (vec_items own) in
     let token = c.index-token.result.now in
-    let inside : i < length (vec_items own) = omega (arith, own.ok.0) in
-    let lt : i < length xs = omega (arith, length-map (vec_items own) held) in
-    let read = held_read (vec_items own) i token inside c.index-token.ensures in
+    let at = stands (vec_items own) i token (omega (arith, own.ok.0)) c.index-token.ensures in
     elim c.if-token-m.branch [
       | then-token-m+in_ok-push w ↦
           ap vec_items w.found-is ∙ chosen _ _ _ _ w.push.ensures.items (ap is_ok w.in_ok-push.was)
           ∙ ap (λ l. l ++ token.byte ∷ []) c.loop-i.invariant
-          ∙ sym (picked_one (λ (h : Held). h.byte) (λ h. eqb h.by m) xs i (held token) lt read (eq-eqb token.by m w.if-token-m.true))
+          ∙ sym (picked_one (λ (h : Held). h.byte) (λ h. eqb h.by m) xs i (held token) at.within at.is (eq-eqb token.by m w.if-token-m.true))
       | else-token-m w ↦
           ap vec_items w.found-is ∙ c.loop-i.invariant
-          ∙ sym (picked_on (λ (h : Held). h.byte) (λ h. eqb h.by m) xs i (held token) lt read (ne_eqb token.by m w.if-token-m.false))
+          ∙ sym (picked_on (λ (h : Held). h.byte) (λ h. eqb h.by m) xs i (held token) at.within at.is (ne_eqb token.by m w.if-token-m.false))
     ]
 
 pub returns : goal.returns
