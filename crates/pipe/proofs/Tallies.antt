@@ -1,6 +1,6 @@
 -- Counts per byte as one of them changes. Assumes nothing.
-use Rattle.std.proofs.Common.{◌≡◌, ℕ, ◌+◌, ◌-◌, ◌<◌, ◌⊎◌, List, length, get_or, set, sym, ap, ◌∙◌, inl, inr, ⊎_elim, arith, get_or-set_other, get_or-set_same}
-use Rattle.pool.proofs.Totals.{total_more}
+use Rattle.std.proofs.Common.{◌≡◌, ℕ, zero, suc, ◌+◌, ◌-◌, ◌<◌, ◌⊎◌, List, length, get_or, set, replicate, sym, refl, ap, ◌∙◌, inl, inr, ⊎_elim, arith, get_or-set_other, get_or-set_same}
+use Rattle.pool.proofs.Totals.{total_more, total_none, total_same}
 use Rattle.pool.specs.Meaning.{only, total}
 use Rattle.std.proofs.lemmas.Bool.{cases_eq}
 use Rattle.std.proofs.lemmas.Bool.Decides.{nat_tests}
@@ -27,3 +27,17 @@ module _ (xs : List ℕ) (b : ℕ) (size : length xs ≡ 256) (byte : b < 256) w
 
   pub lowered_total : 0 < get_or xs b 0 → total (λ k. get_or xs k 0) ≡ total (λ k. get_or (set xs b (get_or xs b 0 - 1)) k 0) + 1
   lowered_total some = total_more (λ k. get_or (set xs b (get_or xs b 0 - 1)) k 0) (λ k. get_or xs k 0) b 1 byte (λ k. sym (lowered some k))
+
+-- a table of n zeros
+abbrev pub zeros : ℕ → List ℕ
+zeros n = replicate n 0
+
+-- in a table of zeros there is none of any byte
+pub all_zero : (n k : ℕ) → get_or (zeros n) k 0 ≡ 0
+all_zero zero k = refl
+all_zero (suc n) zero = refl
+all_zero (suc n) (suc k) = all_zero n k
+
+-- none of each byte is none in all
+pub sum_zero : (f : ℕ → ℕ) → ((k : ℕ) → f k ≡ 0) → total f ≡ 0
+sum_zero f zeros = total_same (λ _. 0) f zeros ∙ total_none

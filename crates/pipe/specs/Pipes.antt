@@ -2,12 +2,11 @@
 use Rattle.std.specs.Prelude.{◌≡◌, ℕ, ◌+◌, ◌<◌, List, [], ◌∷◌, ◌++◌, length, slice_index}
 use Rattle.pool.specs.Meaning.{only, count}
 use Rattle.pool.specs.Ways.{Ways}
-use Rattle.pipe.specs.Queue.{queue}
 use Rattle.pipe.specs.declared.state.Pipe.{Pipe}
 
 -- The tokens in the pipe, in the order in which they entered.
 abbrev pub line : Pipe → List ℕ
-line p = queue p.ring p.head p.len
+line p = p.line
 
 -- How many tokens of the byte k are out.
 abbrev pub out : Pipe → ℕ → ℕ

@@ -2,6 +2,8 @@
 #![tactic(auto)]
 
 mod calls;
+mod ring;
 mod state;
+mod tally;
 
 pub use state::Pipe;

@@ -5,6 +5,6 @@ mod limits;
 mod refusals;
 mod traits;
 
-pub use limits::{HIGHEST_READING, MOST_TOKENS, check_reading};
+pub use limits::{HIGHEST_READING, MOST_TOKENS, check_count, check_reading};
 pub use refusals::Refusal;
 pub use traits::{Lender, Pool};

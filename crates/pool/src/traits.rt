@@ -13,7 +13,8 @@ pub trait Lender {
     fn take(&mut self) -> Option<u8>
         ensures { Take ways self.old result self.new };
 
-    // Brings a token back, or refuses a byte of which none is out.
+    // Brings a token back, or refuses a byte of which none is out. Each pool makes that test itself: it is one
+    // comparison, which a layer leaves to the pool below.
     fn put(&mut self, b: u8) -> Result<(), Refusal>
         ensures { Put ways self.old b result self.new };
 

@@ -5,7 +5,7 @@ ghost use Rattle.std.proofs.Common.{arith, lit<, rules};
 ghost use Rattle.pool.proofs.Totals.{total_only};
 
 use crate::state::Semaphore;
-use pool::{Lender, MOST_TOKENS, Pool, Refusal, check_reading};
+use pool::{Lender, Pool, Refusal, check_count, check_reading};
 
 // The byte of every token.
 const PLUS: u8 = 43;
@@ -25,9 +25,7 @@ impl Semaphore {
     pub fn fill(&mut self, count: u32) -> Result<(), Refusal>
         ensures after { Fill (AllIn count) count self.old result self.new }
     {
-        if count > MOST_TOKENS {
-            return Err(Refusal::TooManyTokens);
-        }
+        check_count(count as usize)?;
         *self = Semaphore {
             tokens_in: count,
             tokens_out: 0,

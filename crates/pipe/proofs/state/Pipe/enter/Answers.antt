@@ -1,37 +1,16 @@
-use Rattle.std.proofs.Common.{◌+◌, get_or, sym, refl, ap, ◌∙◌, arith, length-set}
+use Rattle.std.proofs.Common.{length, ap, ◌∙◌, arith}
+use Rattle.std.proofs.lemmas.List.{length_push}
 use Rattle.pool.proofs.Counts.{count_append}
-use Rattle.pool.proofs.Totals.{total_point}
-use Rattle.pool.specs.Meaning.{only, count}
-use Rattle.pipe.specs.Rings.{entered}
-use Rattle.pipe.proofs.Tallies.{raised, raised_total}
+use Rattle.pool.specs.Meaning.{count}
 use Rattle.pipe.proofs.state.Pipe.enter.Goals as goal
-
-pub overflow_add-self-3 : goal.overflow_add-self-3
-overflow_add-self-3 c = omega (arith, total_point (λ k. get_or c.args.self.now.ins k 0) c.args.b (omega arith))
 
 pub invariant_of-self : goal.invariant_of-self
 invariant_of-self c =
     let p = c.args.self.now in
     let b = c.args.b in
-    let line = entered p.ring p.head p.len b p.inside (omega arith) p.ring_size in
-    let more = raised p.ins b p.ins_size (omega arith) in
+    let long = ap length c.push.ensures.after ∙ length_push p.line b in
     record {
-      inside = p.inside;
-      few = omega arith;
-      counted = λ k. more k ∙ ap (λ n. n + only b 1 k) (p.counted k) ∙ sym (count_append k _ b) ∙ ap (count k) (sym line);
-      all_in = raised_total p.ins b p.ins_size (omega arith) ∙ ap (λ n. n + 1) p.all_in;
-      all_out = p.all_out;
-      ring_size = length-set _ _ _ ∙ p.ring_size;
-      ins_size = length-set _ _ _ ∙ p.ins_size;
-      outs_size = p.outs_size;
-    }
-
-pub returns : goal.returns
-returns c =
-    let p = c.args.self.now in
-    record {
-      line = entered p.ring p.head p.len c.args.b p.inside (omega arith) p.ring_size;
-      len = refl;
-      outs = refl;
-      total = refl;
+      few = omega (arith, long, c.requires);
+      counted = λ k. omega (arith, c.add.ensures.counts k, p.counted k, ap (count k) c.push.ensures.after, count_append k p.line b);
+      all_in = omega (arith, long, c.add.ensures.sum, p.all_in);
     }
