@@ -4,21 +4,17 @@ use first_line::{PoolChoice, read_first_line};
 
 // The number of the refusal, if the line is refused.
 fn refused(line: &[u8]) -> Option<u32> {
-    match read_first_line(line) {
-        Ok(_) => None,
-        Err(refusal) => Some(refusal.number()),
-    }
+    read_first_line(line).err().map(|refusal| refusal.number())
 }
 
 // The tokens of the pipe or the count of the semaphore, whether to keep going, and how many bytes stand behind the line.
 fn told(line: &[u8]) -> Option<(&[u8], u32, bool, usize)> {
-    match read_first_line(line) {
-        Ok(first) => match first.pool {
-            PoolChoice::Pipe(tokens) => Some((tokens, 0, first.keep, first.rest.len())),
-            PoolChoice::Semaphore(count) => Some((b"", count, first.keep, first.rest.len())),
-        },
-        Err(_) => None,
-    }
+    let first = read_first_line(line).ok()?;
+    let (tokens, count): (&[u8], u32) = match first.pool {
+        PoolChoice::Pipe(tokens) => (tokens, 0),
+        PoolChoice::Semaphore(count) => (b"", count),
+    };
+    Some((tokens, count, first.keep, first.rest.len()))
 }
 
 #[test]

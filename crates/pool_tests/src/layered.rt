@@ -1,26 +1,17 @@
 // Quotas and load limits over pools and over each other.
 use crate::walk::Call::*;
-use crate::walk::walk;
+use crate::walk::{pipe_of, walk};
 use layers::{LoadLimit, Quota};
-use pipe::Pipe;
 use semaphore::Semaphore;
-use std::process::Abort;
-use std::test::Fail;
-
-fn pipe_of(rt: &impl Abort, tokens: &[u8]) -> Pipe {
-    let mut pipe = Pipe::new();
-    assert!(rt; pipe.fill(tokens).is_ok());
-    pipe
-}
 
 #[test]
-fn a_quota_bounds_what_is_out(rt: HostRuntime) -> Result<(), Fail> {
+fn a_quota_bounds_what_is_out(rt: HostRuntime) {
     let mut none = Quota::new(pipe_of(&rt, b"xy"), 0);
     walk(
         &rt,
         &mut none,
         &[Totals(0, 0), Take(None), Counts(b'x', 1, 0)],
-    )?;
+    );
     let mut one = Quota::new(pipe_of(&rt, b"xy"), 1);
     walk(
         &rt,
@@ -35,18 +26,18 @@ fn a_quota_bounds_what_is_out(rt: HostRuntime) -> Result<(), Fail> {
             Take(Some(b'y')),
             Take(None),
         ],
-    )?;
+    );
     // a quota above 63 is one of 63, which no pool can reach
     let mut wide = Quota::new(pipe_of(&rt, b"xy"), 1000);
     walk(
         &rt,
         &mut wide,
         &[Totals(0, 2), Take(Some(b'x')), Take(Some(b'y')), Take(None)],
-    )
+    );
 }
 
 #[test]
-fn a_load_limit_heeds_the_last_reading(rt: HostRuntime) -> Result<(), Fail> {
+fn a_load_limit_heeds_the_last_reading(rt: HostRuntime) {
     let mut limit = LoadLimit::new(pipe_of(&rt, b"xy"), 150);
     walk(
         &rt,
@@ -67,11 +58,11 @@ fn a_load_limit_heeds_the_last_reading(rt: HostRuntime) -> Result<(), Fail> {
             Load(100_001, Some(12)),
             Totals(0, 2),
         ],
-    )
+    );
 }
 
 #[test]
-fn a_load_limit_is_taken_into_its_range(rt: HostRuntime) -> Result<(), Fail> {
+fn a_load_limit_is_taken_into_its_range(rt: HostRuntime) {
     // a limit of 0 is one of 1: the reading 0, which none has come before, is under it
     let mut least = LoadLimit::new(pipe_of(&rt, b"x"), 0);
     walk(
@@ -84,7 +75,7 @@ fn a_load_limit_is_taken_into_its_range(rt: HostRuntime) -> Result<(), Fail> {
             Load(0, None),
             Totals(0, 1),
         ],
-    )?;
+    );
     // a limit above 100,000 is one of 100,000, which a reading can reach
     let mut most = LoadLimit::new(pipe_of(&rt, b"x"), u32::MAX);
     walk(
@@ -96,11 +87,11 @@ fn a_load_limit_is_taken_into_its_range(rt: HostRuntime) -> Result<(), Fail> {
             Load(100_000, None),
             Totals(0, 0),
         ],
-    )
+    );
 }
 
 #[test]
-fn a_quota_over_a_limit_over_a_pipe(rt: HostRuntime) -> Result<(), Fail> {
+fn a_quota_over_a_limit_over_a_pipe(rt: HostRuntime) {
     let mut pool = Quota::new(LoadLimit::new(pipe_of(&rt, b"xyz"), 200), 2);
     walk(
         &rt,
@@ -119,11 +110,11 @@ fn a_quota_over_a_limit_over_a_pipe(rt: HostRuntime) -> Result<(), Fail> {
             Totals(1, 1),
             Take(Some(b'z')),
         ],
-    )
+    );
 }
 
 #[test]
-fn a_limit_over_a_quota_over_a_semaphore(rt: HostRuntime) -> Result<(), Fail> {
+fn a_limit_over_a_quota_over_a_semaphore(rt: HostRuntime) {
     let mut semaphore = Semaphore::new();
     assert!(rt; semaphore.fill(3).is_ok());
     let mut pool = LoadLimit::new(Quota::new(semaphore, 2), 200);
@@ -143,5 +134,5 @@ fn a_limit_over_a_quota_over_a_semaphore(rt: HostRuntime) -> Result<(), Fail> {
             Put(43, None),
             Totals(1, 1),
         ],
-    )
+    );
 }

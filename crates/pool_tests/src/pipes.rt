@@ -1,9 +1,8 @@
 // Pipes.
 use crate::walk::Call::*;
-use crate::walk::walk;
+use crate::walk::{pipe_of, refusal_number, walk};
 use pipe::Pipe;
 use pool::{Lender, Pool};
-use std::test::Fail;
 
 // 63 bytes, each another
 const FULL: [u8; 63] = *b"0123456789abcdefghijklmnopqrstuvwxyzABCDEFGHIJKLMNOPQRSTUVWXYZ+";
@@ -11,19 +10,18 @@ const FULL: [u8; 63] = *b"0123456789abcdefghijklmnopqrstuvwxyzABCDEFGHIJKLMNOPQR
 const TOO_MANY: [u8; 64] = *b"0123456789abcdefghijklmnopqrstuvwxyzABCDEFGHIJKLMNOPQRSTUVWXYZ+-";
 
 #[test]
-fn a_new_pipe_is_empty(rt: HostRuntime) -> Result<(), Fail> {
+fn a_new_pipe_is_empty(rt: HostRuntime) {
     let mut pipe = Pipe::new();
     walk(
         &rt,
         &mut pipe,
         &[Totals(0, 0), Take(None), Put(0, Some(11)), Totals(0, 0)],
-    )
+    );
 }
 
 #[test]
-fn bytes_leave_as_they_entered_and_may_repeat(rt: HostRuntime) -> Result<(), Fail> {
-    let mut pipe = Pipe::new();
-    assert!(rt; pipe.fill(b"xyx").is_ok());
+fn bytes_leave_as_they_entered_and_may_repeat(rt: HostRuntime) {
+    let mut pipe = pipe_of(&rt, b"xyx");
     walk(
         &rt,
         &mut pipe,
@@ -47,13 +45,12 @@ fn bytes_leave_as_they_entered_and_may_repeat(rt: HostRuntime) -> Result<(), Fai
             Counts(b'y', 0, 1),
             Totals(2, 1),
         ],
-    )
+    );
 }
 
 #[test]
-fn readings_change_nothing(rt: HostRuntime) -> Result<(), Fail> {
-    let mut pipe = Pipe::new();
-    assert!(rt; pipe.fill(b"ab").is_ok());
+fn readings_change_nothing(rt: HostRuntime) {
+    let mut pipe = pipe_of(&rt, b"ab");
     walk(
         &rt,
         &mut pipe,
@@ -65,41 +62,35 @@ fn readings_change_nothing(rt: HostRuntime) -> Result<(), Fail> {
             Totals(0, 2),
             Take(Some(b'a')),
         ],
-    )
+    );
 }
 
 // A full pipe is emptied and refilled from another slot of its ring each time, so that its tokens pass the ring's end.
 #[test]
 fn a_full_pipe_goes_round(rt: HostRuntime) {
-    let mut pipe = Pipe::new();
-    assert!(rt; pipe.fill(&FULL).is_ok());
-    for first in 0usize..5 {
+    let mut pipe = pipe_of(&rt, &FULL);
+    let mut line = FULL;
+    for _ in 0..5 {
         assert_eq!(rt; pipe.ready(), 63);
-        for i in 0usize..63 {
-            assert_eq!(rt; pipe.take(), Some(FULL[(first + i) % 63]));
+        for b in line {
+            assert_eq!(rt; pipe.take(), Some(b));
         }
         assert_eq!(rt; pipe.take(), None);
         assert_eq!(rt; pipe.total_out(), 63);
-        for i in 0usize..63 {
-            assert!(rt; pipe.put(FULL[(first + i) % 63]).is_ok());
+        for b in line {
+            assert!(rt; pipe.put(b).is_ok());
         }
-        assert_eq!(rt; pipe.take(), Some(FULL[first]));
-        assert!(rt; pipe.put(FULL[first]).is_ok());
+        assert_eq!(rt; pipe.take(), Some(line[0]));
+        assert!(rt; pipe.put(line[0]).is_ok());
+        line.rotate_left(1);
     }
 }
 
 #[test]
-fn sixty_four_tokens_are_refused(rt: HostRuntime) -> Result<(), Fail> {
-    let mut pipe = Pipe::new();
-    assert!(rt; pipe.fill(b"ab").is_ok());
+fn sixty_four_tokens_are_refused(rt: HostRuntime) {
+    let mut pipe = pipe_of(&rt, b"ab");
     assert_eq!(rt; pipe.take(), Some(b'a'));
-    match pipe.fill(&TOO_MANY) {
-        Ok(()) => Err(Fail::new("64 tokens were accepted")),
-        Err(refusal) => {
-            assert_eq!(rt; refusal.number(), 13);
-            Ok(())
-        }
-    }?;
+    assert_eq!(rt; refusal_number(pipe.fill(&TOO_MANY)), Some(13));
     walk(
         &rt,
         &mut pipe,
@@ -109,13 +100,12 @@ fn sixty_four_tokens_are_refused(rt: HostRuntime) -> Result<(), Fail> {
             Totals(1, 1),
             Take(Some(b'b')),
         ],
-    )
+    );
 }
 
 #[test]
-fn filling_anew_forgets_what_was_out(rt: HostRuntime) -> Result<(), Fail> {
-    let mut pipe = Pipe::new();
-    assert!(rt; pipe.fill(b"ab").is_ok());
+fn filling_anew_forgets_what_was_out(rt: HostRuntime) {
+    let mut pipe = pipe_of(&rt, b"ab");
     assert_eq!(rt; pipe.take(), Some(b'a'));
     assert!(rt; pipe.fill(b"c").is_ok());
     walk(
@@ -127,11 +117,11 @@ fn filling_anew_forgets_what_was_out(rt: HostRuntime) -> Result<(), Fail> {
             Counts(b'b', 0, 0),
             Take(Some(b'c')),
         ],
-    )?;
+    );
     assert!(rt; pipe.fill(b"").is_ok());
     walk(
         &rt,
         &mut pipe,
         &[Totals(0, 0), Put(b'c', Some(11)), Take(None)],
-    )
+    );
 }

@@ -1,7 +1,7 @@
 // A pool walked through a table of calls, each with the answer that it must give.
-use pool::Pool;
+use pipe::Pipe;
+use pool::{Pool, Refusal};
 use std::process::Abort;
-use std::test::Fail;
 
 #[derive(Clone, Copy)]
 pub enum Call {
@@ -17,44 +17,37 @@ pub enum Call {
     Totals(u32, u32),
 }
 
-pub fn walk<P: Pool>(rt: &impl Abort, pool: &mut P, calls: &[Call]) -> Result<(), Fail> {
-    for call in calls {
-        make(rt, pool, *call)?;
+// Makes each call in turn, and compares its answer.
+pub fn walk<P: Pool>(rt: &impl Abort, pool: &mut P, calls: &[Call]) {
+    for &call in calls {
+        make(rt, pool, call);
     }
-    Ok(())
 }
 
-fn make<P: Pool>(rt: &impl Abort, pool: &mut P, call: Call) -> Result<(), Fail> {
+fn make<P: Pool>(rt: &impl Abort, pool: &mut P, call: Call) {
     match call {
-        Call::Take(byte) => {
-            assert_eq!(rt; pool.take(), byte);
-            Ok(())
-        }
-        Call::Put(byte, refused) => {
-            let number = match pool.put(byte) {
-                Ok(()) => None,
-                Err(refusal) => Some(refusal.number()),
-            };
-            assert_eq!(rt; number, refused);
-            Ok(())
-        }
-        Call::Load(reading, refused) => {
-            let number = match pool.load(reading) {
-                Ok(()) => None,
-                Err(refusal) => Some(refusal.number()),
-            };
-            assert_eq!(rt; number, refused);
-            Ok(())
-        }
+        Call::Take(byte) => assert_eq!(rt; pool.take(), byte),
+        Call::Put(byte, refused) => assert_eq!(rt; refusal_number(pool.put(byte)), refused),
+        Call::Load(reading, refused) => assert_eq!(rt; refusal_number(pool.load(reading)), refused),
         Call::Counts(byte, tokens_in, tokens_out) => {
             assert_eq!(rt; pool.count_in(byte), tokens_in);
             assert_eq!(rt; pool.count_out(byte), tokens_out);
-            Ok(())
         }
         Call::Totals(out, ready) => {
             assert_eq!(rt; pool.total_out(), out);
             assert_eq!(rt; pool.ready(), ready);
-            Ok(())
         }
     }
+}
+
+// The number of the refusal, if the answer is one.
+pub fn refusal_number(answer: Result<(), Refusal>) -> Option<u32> {
+    answer.err().map(|refusal| refusal.number())
+}
+
+// A pipe with these tokens in, of which there are at most 63.
+pub fn pipe_of(rt: &impl Abort, tokens: &[u8]) -> Pipe {
+    let mut pipe = Pipe::new();
+    assert!(rt; pipe.fill(tokens).is_ok());
+    pipe
 }

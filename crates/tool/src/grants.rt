@@ -19,10 +19,7 @@ pub struct Unreleased {
 pub fn obtain<L: Lender>(lender: &mut L) -> Option<Grant>
     ensures after { Obtain L.Lender.ways lender.old result lender.new }
 {
-    match lender.take() {
-        Some(byte) => Some(Grant { byte }),
-        None => None,
-    }
+    lender.take().map(|byte| Grant { byte })
 }
 
 impl Grant {
