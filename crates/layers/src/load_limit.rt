@@ -23,7 +23,7 @@ impl<P> LoadLimit<P> {
     {
         LoadLimit {
             below,
-            limit: limit.min(HIGHEST_READING).max(1),
+            limit: limit.clamp(1, HIGHEST_READING),
             reading: 0,
         }
     }
@@ -43,9 +43,7 @@ impl<P: Pool> Lender for LoadLimit<P> {
 
     ghost taken = { Prim.search rules };
 
-    ghost returned = { λ s b t h.
-        let below = P.Lender.returned s.below b t.below h.0 in
-        record { byte = below.byte; ins = below.ins; outs = below.outs } };
+    ghost returned = { Prim.search rules };
 
     ghost unmoved = { Prim.search rules };
 
@@ -82,8 +80,9 @@ impl<P: Pool> Pool for LoadLimit<P> {
 
     fn ready(&self) -> u32 {
         if self.is_reached() {
-            return 0;
+            0
+        } else {
+            self.below.ready()
         }
-        self.below.ready()
     }
 }

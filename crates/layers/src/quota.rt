@@ -37,9 +37,7 @@ impl<P: Pool> Lender for Quota<P> {
         let more = total_more _ _ b 1 below.byte below.outs in
         record { byte = below.byte; ins = below.ins; outs = below.outs; ready = omega (arith, more, below.ready, h.0, h.2) } };
 
-    ghost returned = { λ s b t h.
-        let below = P.Lender.returned s.below b t.below h.0 in
-        record { byte = below.byte; ins = below.ins; outs = below.outs } };
+    ghost returned = { Prim.search rules };
 
     ghost unmoved = { Prim.search rules };
 

@@ -78,7 +78,7 @@ impl Lender for Pipe {
           outs = g.2;
         } };
 
-    ghost unmoved = { first_of (Prim.search rules, Prim.grind (arith, Self.row.coded.inj)) };
+    ghost unmoved = { Prim.search rules };
 
     fn take(&mut self) -> Option<u8> {
         let first = self.line.pop()?;

@@ -42,11 +42,11 @@ impl Lender for Semaphore {
         let all_out = total_only 43 p.tokens_out (lit< tt) in
         record { few = omega arith; backed = omega arith } };
 
-    ghost taken = { first_of (Prim.search rules, Prim.grind (arith, Self.row.coded.inj)) };
+    ghost taken = { Prim.search rules };
 
-    ghost returned = { first_of (Prim.search rules, Prim.grind (arith, Self.row.coded.inj)) };
+    ghost returned = { Prim.search rules };
 
-    ghost unmoved = { first_of (Prim.search rules, Prim.grind (arith, Self.row.coded.inj)) };
+    ghost unmoved = { Prim.search rules };
 
     fn take(&mut self) -> Option<u8> {
         if self.tokens_in == 0 {
