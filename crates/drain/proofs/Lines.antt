@@ -1,14 +1,11 @@
 -- A round on a pool whose tokens stand in a line. Assumes nothing.
-use Rattle.std.proofs.Common.{◌≡◌, ℕ, List, [], ◌∷◌, ◌++◌, map, reverse, length, sym, refl, ap, ◌∙◌, append_assoc, append-nil, arith}
+use Rattle.std.proofs.Common.{◌≡◌, ℕ, List, [], ◌∷◌, ◌++◌, map, reverse, length, sym, ap, ◌∙◌, append_assoc, append-nil, arith}
+use Rattle.std.proofs.lemmas.List.{nil_from_length}
 use Rattle.pool.specs.Chain.{took_none, took, put_back, Chain}
 use Rattle.pool.specs.Ways.{Ways}
 use Rattle.drain.specs.Draining.{Happened, op, all_and_back, Drained}
 use Rattle.drain.specs.declared.events.Event.{Event}
 use Rattle.drain.specs.declared.events.Event.TheVariants.{Obtained, Nothing, Released}
-
-nil : (xs : List ℕ) → length xs ≡ 0 → xs ≡ []
-nil [] h = refl
-nil (x ∷ xs) h = absurd (omega arith)
 
 -- the line is what is ready; a take gives its first token, and a put adds one at its end
 module _ {P : Type 0} (w : Ways P) (line : P → List ℕ) (ready : (p : P) → (w.means p).ready ≡ length (line p)) (gives : (p : P) (b : ℕ) (q : P) → w.gave p b q → line p ≡ b ∷ line q) (brings : (p : P) (b : ℕ) (q : P) → w.back p b q → line q ≡ line p ++ b ∷ []) where
@@ -44,7 +41,7 @@ module _ {P : Type 0} (w : Ways P) (line : P → List ℕ) (ready : (p : P) → 
       let first : op e ≡ took_none = cc in
       let rest : map op es ≡ map put_back cs = cc in
       let ended = came_to_none e p c.0 first c.1 in
-      let empty = nil (line p) ended.0 in
+      let empty = nil_from_length (line p) ended.0 in
       (empty, all_released cs es c.0 q rest c.2 ∙ ap (λ l. l ++ cs) (ap line ended.1 ∙ empty))
   round_line cs (b ∷ bs) [] p q is c = let long = ap length is in absurd (omega arith)
   round_line cs (b ∷ bs) (e ∷ es) p q is c =

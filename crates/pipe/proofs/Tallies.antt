@@ -1,29 +1,22 @@
 -- Counts per byte as one of them changes. Assumes nothing.
-use Rattle.std.proofs.Common.{◌≡◌, ℕ, zero, suc, ◌+◌, ◌-◌, ◌<◌, ◌⊎◌, List, length, get_or, set, replicate, sym, refl, ap, ◌∙◌, inl, inr, ⊎_elim, arith, get_or-set_other, get_or-set_same}
+use Rattle.std.proofs.Common.{◌≡◌, ℕ, zero, suc, ◌+◌, ◌-◌, ◌<◌, List, length, get_or, set, replicate, sym, refl, ◌∙◌, arith}
 use Rattle.pool.proofs.Totals.{total_more, total_none, total_same}
 use Rattle.pool.specs.Meaning.{only, total}
-use Rattle.std.proofs.lemmas.Bool.{cases_eq}
 use Rattle.std.proofs.lemmas.Bool.Decides.{nat_tests}
+use Rattle.std.proofs.lemmas.Grind.{common_steps}
 
 -- a table with a count for each byte value, and the count of one of them changed
 module _ (xs : List ℕ) (b : ℕ) (size : length xs ≡ 256) (byte : b < 256) where
-  changed : (n k : ℕ) → ((k ≡ b) × (get_or (set xs b n) k 0 ≡ n) × (get_or xs k 0 ≡ get_or xs b 0)) ⊎ ((k ≡ b → ⊥) × (get_or (set xs b n) k 0 ≡ get_or xs k 0))
-  changed n k =
-      ⊎_elim
-      (λ e. inl (e, ap (λ j. get_or (set xs b n) j 0) e ∙ get_or-set_same xs b n 0 (omega arith), ap (λ j. get_or xs j 0) e))
-      (λ ne. inr (ne, get_or-set_other xs b k n 0 ne))
-      (cases_eq k b)
-
   -- the count of b is one more
   pub raised : (k : ℕ) → get_or (set xs b (get_or xs b 0 + 1)) k 0 ≡ get_or xs k 0 + only b 1 k
-  raised k = let at = changed (get_or xs b 0 + 1) k in grind (arith, nat_tests, at)
+  raised k = grind (arith, nat_tests, common_steps)
 
   pub raised_total : total (λ k. get_or (set xs b (get_or xs b 0 + 1)) k 0) ≡ total (λ k. get_or xs k 0) + 1
   raised_total = total_more (λ k. get_or xs k 0) (λ k. get_or (set xs b (get_or xs b 0 + 1)) k 0) b 1 byte raised
 
   -- the count of b is one less
   pub lowered : 0 < get_or xs b 0 → (k : ℕ) → get_or (set xs b (get_or xs b 0 - 1)) k 0 + only b 1 k ≡ get_or xs k 0
-  lowered some k = let at = changed (get_or xs b 0 - 1) k in grind (arith, nat_tests, at)
+  lowered some k = grind (arith, nat_tests, common_steps)
 
   pub lowered_total : 0 < get_or xs b 0 → total (λ k. get_or xs k 0) ≡ total (λ k. get_or (set xs b (get_or xs b 0 - 1)) k 0) + 1
   lowered_total some = total_more (λ k. get_or (set xs b (get_or xs b 0 - 1)) k 0) (λ k. get_or xs k 0) b 1 byte (λ k. sym (lowered some k))

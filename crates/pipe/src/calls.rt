@@ -3,7 +3,7 @@ ghost use Rattle.std.specs.Prelude.{◌≡◌, ◌+◌, ◌<◌, ◌≤◌, [], 
 ghost use Rattle.std.proofs.Common.{sym, ap, ◌∙◌, arith, rules};
 ghost use Rattle.pool.specs.Ways.{Fill};
 ghost use Rattle.pipe.specs.Pipes.{AllIn, line, out, pipe_ways};
-ghost use Rattle.pool.specs.Meaning.{count, total};
+ghost use Rattle.pool.specs.Meaning.{count, most_tokens, total};
 ghost use Rattle.pool.proofs.Totals.{total_same};
 ghost use Rattle.pool.proofs.Counts.{count_first, count_append};
 
@@ -35,7 +35,7 @@ impl Pipe {
 
     // A pipe with these tokens in, entered from first to last.
     fn filled(tokens: &[u8]) -> Pipe
-        requires { length tokens.now ≤ 63 }
+        requires { length tokens.now ≤ most_tokens }
         ensures { AllIn tokens.now result }
     {
         let mut pipe = Pipe::new();
@@ -47,7 +47,7 @@ impl Pipe {
 
     // One token more at the end of the line.
     fn enter(&mut self, b: u8)
-        requires { length (line self.old) + total (out self.old) < 63 }
+        requires { length (line self.old) + total (out self.old) < most_tokens }
         ensures line { line self.new ≡ line self.old ++ b ∷ [] }
         ensures outs { self.new.outs ≡ self.old.outs }
     {

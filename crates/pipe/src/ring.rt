@@ -1,6 +1,7 @@
 // A line of bytes in fixed memory.
 ghost use Rattle.std.specs.Prelude.{◌≡◌, ℕ, ◌+◌, ◌<◌, ◌≤◌, List, [], ◌∷◌, ◌++◌, length, MatchOption};
 ghost use Rattle.pipe.specs.Queue.{queue};
+ghost use Rattle.pool.specs.Meaning.{most_tokens};
 
 use pool::MOST_TOKENS;
 use std::marker::Model;
@@ -22,7 +23,7 @@ impl Model for Ring {
 
     ghost view = { λ r. queue r.slots r.head r.len };
 
-    ghost invariant = { λ r. (r.head < 63) × (r.len ≤ 63) };
+    ghost invariant = { λ r. (r.head < most_tokens) × (r.len ≤ most_tokens) };
 }
 
 impl Ring {
@@ -38,7 +39,7 @@ impl Ring {
 
     // Puts a byte at the end of the line.
     pub fn push(&mut self, b: u8)
-        requires { length self.old < 63 }
+        requires { length self.old < most_tokens }
         ensures after { self.new ≡ self.old ++ b ∷ [] }
     {
         self.slots[(self.head + self.len) % SLOTS] = b;

@@ -34,6 +34,7 @@ impl Grant {
     pub fn release<L: Lender>(self, lender: &mut L) -> Result<(), Unreleased>
         ensures after { Release L.Lender.ways lender.old self result lender.new }
     {
+        // no `map_err`: a closure that holds the grant could let it fall
         match lender.put(self.byte) {
             Ok(()) => {
                 let Grant { byte: _ } = self;
