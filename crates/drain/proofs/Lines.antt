@@ -11,17 +11,17 @@ use Rattle.drain.specs.declared.events.Event.TheVariants.{Obtained, Nothing, Rel
 module _ {P : Type 0} (w : Ways P) (line : P → List ℕ) (ready : (p : P) → (w.means p).ready ≡ length (line p)) (gives : (p : P) (b : ℕ) (q : P) → w.gave p b q → line p ≡ b ∷ line q) (brings : (p : P) (b : ℕ) (q : P) → w.back p b q → line q ≡ line p ++ b ∷ []) where
   obtained : (e : Event) (b : ℕ) (p q : P) → op e ≡ took b → Happened w e p q → line p ≡ b ∷ line q
   obtained (Obtained s) b p q is h = let same : s.byte ≡ b = cc in gives p s.byte q h.0 ∙ ap (λ x. x ∷ line q) same
-  obtained Nothing b p q is h = let z : ◌≡◌ {A = ℕ} 0 1 = cc in absurd (omega arith)
-  obtained (Released s) b p q is h = let z : ◌≡◌ {A = ℕ} 0 1 = cc in absurd (omega arith)
+  obtained Nothing b p q is h = absurd cc
+  obtained (Released s) b p q is h = absurd cc
 
   came_to_none : (e : Event) (p q : P) → op e ≡ took_none → Happened w e p q → (length (line p) ≡ 0) × (q ≡ p)
-  came_to_none (Obtained s) p q is h = let z : ◌≡◌ {A = ℕ} 0 1 = cc in absurd (omega arith)
+  came_to_none (Obtained s) p q is h = absurd cc
   came_to_none Nothing p q is h = (sym (ready p) ∙ h.0.0, h.0.1)
-  came_to_none (Released s) p q is h = let z : ◌≡◌ {A = ℕ} 0 1 = cc in absurd (omega arith)
+  came_to_none (Released s) p q is h = absurd cc
 
   released : (e : Event) (b : ℕ) (p q : P) → op e ≡ put_back b → Happened w e p q → line q ≡ line p ++ b ∷ []
-  released (Obtained s) b p q is h = let z : ◌≡◌ {A = ℕ} 0 1 = cc in absurd (omega arith)
-  released Nothing b p q is h = let z : ◌≡◌ {A = ℕ} 0 1 = cc in absurd (omega arith)
+  released (Obtained s) b p q is h = absurd cc
+  released Nothing b p q is h = absurd cc
   released (Released s) b p q is h = let same : s.byte ≡ b = cc in brings p s.byte q h.0 ∙ ap (λ x. line p ++ x ∷ []) same
 
   -- what is released comes to the end of the line

@@ -80,6 +80,7 @@ impl Pool for Semaphore {
         check_reading(reading)
     }
 
+    #[tactic(auto, using(pool::proofs::Totals::total_only))]
     fn total_out(&self) -> u32 {
         self.tokens_out
     }
