@@ -1,18 +1,17 @@
 -- One change of a build at work, and its record. Assumes nothing.
-use Rattle.std.proofs.Common.{◌≡◌, ℕ, ◌+◌, ◌<◌, ◌≤◌, Bool, true, false, cond, ltb, List, length, get_or, vec_capacity, sym, refl, ap, ◌∙◌, subst, arith}
+use Rattle.std.proofs.Common.{◌≡◌, ℕ, ◌+◌, ◌<◌, ◌≤◌, Bool, true, false, cond, ltb, List, length, Ok, Err, Result, get_or, vec_capacity, sym, refl, ap, ◌∙◌, subst, arith}
 use Rattle.pool.specs.Ways.{Ways}
 use Rattle.rules.specs.Builds.{Build, Loss, unbegun, at, with_state, tokens_of}
 use Rattle.rules.specs.Calls.{stepped}
 use Rattle.rules.specs.Ending.{noted_loss}
 use Rattle.rules.specs.Events.{accepted, accepts_start, accepts_work, state_of}
 use Rattle.rules.specs.Plans.{is_make}
-use Rattle.rules.specs.declared.progress.End.{End}
-use Rattle.rules.specs.declared.progress.End.TheVariants.{Well, Failed}
 use Rattle.rules.specs.declared.progress.Event.TheVariants as events
 use Rattle.rules.specs.declared.progress.Progress.{Progress}
 use Rattle.rules.specs.declared.progress.State.TheVariants.{Waiting, Running}
 use Rattle.schedule.specs.Buffers.{Wrote}
 use Rattle.schedule.specs.Records.{bytes, size}
+use Rattle.schedule.specs.declared.cause.Cause.{Cause}
 use Rattle.schedule.specs.declared.record.Record.{Record}
 use Rattle.std.proofs.lemmas.List.{get_or_read}
 use Rattle.std.proofs.lemmas.Bool.{lt-ltb}
@@ -29,7 +28,7 @@ use Rattle.build.specs.declared.work.Work.{Work}
 pub after_start : (x y z : Progress) → z ≡ accepted x events.Start → x ≡ y → y.state ≡ Waiting → z ≡ with_state y Running
 after_start x y z e same is = e ∙ ap (λ v. accepted v events.Start) same ∙ ap (λ s. cond (accepts_start s) (with_state y Running) y) is
 
-pub after_end : (x y z : Progress) (how : End) → z ≡ accepted x (events.End how) → x ≡ y → y.state ≡ Running → z ≡ with_state y (state_of how)
+pub after_end : (x y z : Progress) (how : Result Unit Cause) → z ≡ accepted x (events.End how) → x ≡ y → y.state ≡ Running → z ≡ with_state y (state_of how)
 after_end x y z how e same is = e ∙ ap (λ v. accepted v (events.End how)) same ∙ ap (λ s. cond (accepts_work s true) (with_state y (state_of how)) y) is
 
 pub after_step : (x y z : Progress) (n : ℕ) → z ≡ accepted x (events.Step n) → x ≡ y → y.state ≡ Running → y.done < n → z ≡ stepped y
@@ -79,30 +78,30 @@ pub kept_both : {P : Type 0} {w : Ways P} {q r : P} {e e₁ e₂ : Work} {m n : 
 kept_both limit enough k j = record { fit = j.fit; backed = j.backed; plan = j.plan ∙ k.plan; keep = j.keep ∙ k.keep; spent = omega (arith, enough k.spent, j.spent) }
 
 -- a node that ended so
-pub ended_over : (how : End) → unended (state_of how) ≡ 0
-ended_over Well = refl
-ended_over (Failed c) = refl
+pub ended_over : (how : Result Unit Cause) → unended (state_of how) ≡ 0
+ended_over (Ok _) = refl
+ended_over (Err c) = refl
 
-pub ended_none : (how : End) (k : ℕ) → bytes_left (state_of how) k ≡ 0
-ended_none Well k = refl
-ended_none (Failed c) k = refl
+pub ended_none : (how : Result Unit Cause) (k : ℕ) → bytes_left (state_of how) k ≡ 0
+ended_none (Ok _) k = refl
+ended_none (Err c) k = refl
 
-pub ended_unstarted : (how : End) → unstarted (state_of how) ≡ 0
-ended_unstarted Well = refl
-ended_unstarted (Failed c) = refl
+pub ended_unstarted : (how : Result Unit Cause) → unstarted (state_of how) ≡ 0
+ended_unstarted (Ok _) = refl
+ended_unstarted (Err c) = refl
 
-pub ended_size : (how : End) (n : ℕ) → size (ended_record how n) ≤ 3
-ended_size Well n = omega arith
-ended_size (Failed c) n = omega arith
+pub ended_size : (how : Result Unit Cause) (n : ℕ) → size (ended_record how n) ≤ 3
+ended_size (Ok _) n = omega arith
+ended_size (Err c) n = omega arith
 
 -- one loss is noted at the most
 loss_few : (t : Bool) (n : ℕ) (ts : List ℕ) (ls : List Loss) → length (noted_loss t n ts ls) ≤ length ls + 1
 loss_few true n ts ls = omega arith
 loss_few false n ts ls = omega arith
 
-pub noted_few : (how : End) (n : ℕ) (b : Build) → length (noted_at how n b.plan b.tokens b.losses) ≤ length b.losses + 1
-noted_few Well n b = omega arith
-noted_few (Failed c) n b = loss_few (is_make b.plan n) n (tokens_of b (b.plan.make n)) b.losses
+pub noted_few : (how : Result Unit Cause) (n : ℕ) (b : Build) → length (noted_at how n b.plan b.tokens b.losses) ≤ length b.losses + 1
+noted_few (Ok _) n b = omega arith
+noted_few (Err c) n b = loss_few (is_make b.plan n) n (tokens_of b (b.plan.make n)) b.losses
 
 -- what is kept, on whichever pool
 pub still_kept : {P : Type 0} {w : Ways P} {q : P} {e e' : Work} {limit : ℕ} → Kept w e limit e' q → Still e limit e'

@@ -1,14 +1,12 @@
 -- What a build at work keeps, through each change of a node. Assumes nothing.
-use Rattle.std.proofs.Common.{◌≡◌, ℕ, zero, suc, ◌+◌, ◌-◌, ◌*◌, ◌<◌, ◌≤◌, Bool, true, false, eqb, List, [], ◌∷◌, map, length, get_or, set, sym, refl, ap, ◌∙◌, subst, ⊎_elim, arith, length-set}
-use lib.ListN.{length-map}
-use Rattle.rules.specs.Builds.{Build, Held, Loss, unbegun, at, with_node, with_state, with_tokens, in_state, tokens_of}
+use Rattle.std.proofs.Common.{◌≡◌, ℕ, zero, suc, ◌+◌, ◌-◌, ◌*◌, ◌<◌, ◌≤◌, false, List, [], ◌∷◌, length, get_or, set, sym, refl, ap, ◌∙◌, subst, ⊎_elim, arith, length-set}
+use Rattle.rules.specs.Builds.{Build, Held, Loss, unbegun, at, with_node, with_state, with_tokens, in_state}
 use Rattle.rules.specs.Calls.{stepped}
-use Rattle.rules.specs.Lists.{those, put_if}
 use Rattle.rules.specs.Plans.{is_make}
 use Rattle.rules.specs.declared.progress.Progress.{Progress}
 use Rattle.rules.specs.declared.progress.State.{State}
 use Rattle.rules.specs.declared.progress.State.TheVariants.{Waiting, Running, Good, Failed}
-use Rattle.std.proofs.lemmas.List.{length-reverse, get_or-set_same, get_or-set_other}
+use Rattle.std.proofs.lemmas.List.{get_or-set_same, get_or-set_other}
 use Rattle.std.proofs.lemmas.Bool.{cases_eq}
 use Rattle.build.specs.Fits.{StepsLeft, FitsBut, Fits}
 use Rattle.build.specs.Lost.{Memory}
@@ -95,20 +93,6 @@ fits_other m {b} fits = record { whole = fits.whole; small = fits.small; steps =
 -- fewer tokens in hand
 pub fits_fewer : (b : Build) (ts : List Held) {hands : ℕ} {notes : Memory} {rows : ℕ} → Fits b hands notes rows → length ts ≤ length b.tokens → Fits (with_tokens b ts) hands notes rows
 fits_fewer b ts fits fewer = record { whole = fits.whole; small = fits.small; steps = fits.steps; few = omega (arith, fits.few); room = fits.room; ample = fits.ample; spare = fits.spare; wide = fits.wide; listed = fits.listed; noted = fits.noted }
-
--- those that pass a test are no more
-those_few : {A : Type 0} (p : A → Bool) (xs : List A) → length (those p xs) ≤ length xs
-those_few p [] = omega arith
-those_few p (x ∷ xs) = put (p x) (those_few p xs)
-  where
-    put : (t : Bool) → length (those p xs) ≤ length xs → length (put_if t x (those p xs)) ≤ suc (length xs)
-    put true h = omega arith
-    put false h = omega arith
-
-pub tokens_few : (b : Build) (m : ℕ) → length (tokens_of b m) ≤ length b.tokens
-tokens_few b m =
-    let own = those (λ h. eqb h.by m) b.tokens in
-    omega (arith, length-reverse (map (λ h. h.byte) own), length-map own (λ h. h.byte), those_few (λ h. eqb h.by m) b.tokens)
 
 module _ (b : Build) (n : ℕ) (inside : n < length b.nodes) where
   -- a start takes at most 4 bytes

@@ -1,14 +1,17 @@
 -- Tokens in hand, from the one taken last on. Assumes nothing.
-use Rattle.std.proofs.Common.{◌≡◌, ℕ, ◌+◌, ◌-◌, ◌<◌, ◌≤◌, Bool, true, false, eqb, List, [], ◌∷◌, ◌++◌, map, reverse, length, get_or, take, drop, Some, None, Option, sym, refl, ap, ◌∙◌, arith}
+use Rattle.std.proofs.Common.{◌≡◌, ℕ, suc, ◌+◌, ◌-◌, ◌<◌, ◌≤◌, Bool, true, false, eqb, List, [], ◌∷◌, ◌++◌, map, reverse, length, get_or, take, drop, Some, None, Option, sym, refl, ap, ◌∙◌, arith}
 use Rattle.pool.specs.Meaning.{count, only}
 use Rattle.pool.proofs.Counts.{count_first}
 use Rattle.rules.specs.Ending.{goes_back, keep_held}
-use Rattle.rules.specs.Lists.{any, if_so, those, put_if}
+use Rattle.rules.specs.Lists.{if_so, those, put_if}
 use Rattle.rules.specs.Builds.{Held}
-use Rattle.std.proofs.lemmas.List.{take_more, drop_more, drop_all, reverse-append, get_or_read, map_push, append_assoc, append-nil}
+use Rattle.std.proofs.lemmas.List.{take_more, drop_more, drop_all, reverse-append, get_or-map, get_or-drop, get_or-reverse, length-map, length-drop, length-reverse, map_push, append_assoc, append-nil, take-append-drop}
+use Rattle.std.specs.List.{AllWithin, HoldsAt}
 use Rattle.std.proofs.lemmas.Bool.{eq-eqb, ne_eqb}
 use Rattle.std.proofs.lemmas.Bool.Decides.{nat_tests}
 use Rattle.build.specs.Hands.{in_hands, own_bytes, LastOf}
+use Rattle.build.specs.Models.{held}
+use Rattle.build.specs.declared.tokens.Token.{Token}
 
 module _ {A : Type 0} (xs : List A) (i : ℕ) (x : A) (some : 0 < i) (within : i ≤ length xs) (read : x ≡ get_or xs (i - 1) x) where
   before : i - 1 + 1 ≡ i
@@ -20,22 +23,6 @@ module _ {A : Type 0} (xs : List A) (i : ℕ) (x : A) (some : 0 < i) (within : i
       ap (λ n. reverse (take n xs)) (sym before) ∙ ap reverse (take_more xs (i - 1) x (omega arith)) ∙ reverse-append (take (i - 1) xs) (get_or xs (i - 1) x ∷ [])
       ∙ ap (λ y. y ∷ reverse (take (i - 1) xs)) (sym read)
 
-  -- the first of a rest
-  pub first_last : reverse (drop (i - 1) xs) ≡ reverse (drop i xs) ++ x ∷ []
-  first_last =
-      ap reverse (drop_more xs (i - 1) x (omega arith)) ∙ reverse-append (get_or xs (i - 1) x ∷ []) (drop (i - 1 + 1) xs)
-      ∙ (λ j. reverse (drop (before j) xs) ++ sym read j ∷ [])
-
-  -- one of a front
-  pub any_front_found : (f : A → Bool) → f x ≡ true → any f (reverse (take i xs)) ≡ true
-  any_front_found f e = ap (any f) last_first ∙ rw e refl
-
-  pub any_front_on : (f : A → Bool) → f x ≡ false → any f (reverse (take i xs)) ≡ any f (reverse (take (i - 1) xs))
-  any_front_on f e = ap (any f) last_first ∙ rw e refl
-
-pub any_front_none : {A : Type 0} (xs : List A) (i : ℕ) (f : A → Bool) → i ≡ 0 → any f (reverse (take i xs)) ≡ false
-any_front_none xs i f e = ap (λ n. any f (reverse (take n xs))) e
-
 -- how many tokens of a byte: of none, and with one more
 pub in_hands_none : (k : ℕ) → in_hands k [] ≡ 0
 unfolding count
@@ -44,9 +31,6 @@ in_hands_none k = refl
 pub in_hands_more : (k : ℕ) (h : Held) (hs : List Held) → in_hands k (h ∷ hs) ≡ in_hands k hs + only h.byte 1 k
 in_hands_more k h hs = count_first k h.byte (map (λ x. x.byte) hs)
 
-pub in_hands_one : (k : ℕ) (h : Held) (hs : List Held) → h.byte ≡ k → in_hands k (h ∷ hs) ≡ in_hands k hs + 1
-in_hands_one k h hs e = let more = in_hands_more k h hs in grind (arith, nat_tests)
-
 pub in_hands_on : (k : ℕ) (h : Held) (hs : List Held) → (h.byte ≡ k → ⊥) → in_hands k (h ∷ hs) ≡ in_hands k hs
 in_hands_on k h hs e = let more = in_hands_more k h hs in grind (arith, nat_tests)
 
@@ -54,11 +38,6 @@ in_hands_on k h hs e = let more = in_hands_more k h hs in grind (arith, nat_test
 pub kept : List Held → Option (ℕ × List Held) → Option (ℕ × List Held)
 kept [] found = found
 kept (h ∷ hs) found = keep_held h (kept hs found)
-
-pub kept_one : (hs : List Held) (h : Held) (found : Option (ℕ × List Held)) → kept (hs ++ h ∷ []) found ≡ kept hs (keep_held h found)
-unfolding kept
-kept_one [] h found = refl
-kept_one (x ∷ hs) h found = ap (keep_held x) (kept_one hs h found)
 
 pub kept_none : (hs : List Held) → kept hs None ≡ None
 unfolding kept
@@ -70,45 +49,53 @@ unfolding kept
 kept_some [] b rest = refl
 kept_some (x ∷ hs) b rest = ap (keep_held x) (kept_some hs b rest)
 
--- of the tokens xs, those up to place i are still to be looked at for one of make m
-pub record Looked (m : ℕ) (xs : List Held) (i : ℕ) : Type 0 where
-  pub left : goes_back m (reverse xs) ≡ kept (reverse (drop i xs)) (goes_back m (reverse (take i xs)))
+-- none of these is the make's
+abbrev NoneOf : ℕ → List Held → Type 0
+NoneOf m hs = (k : ℕ) (d : Held) → k < length hs → (get_or hs k d).by ≡ m → ⊥
 
-pub looked_none : (m : ℕ) (xs : List Held) (i : ℕ) → drop i xs ≡ [] → take i xs ≡ xs → Looked m xs i
+passed_by : (m : ℕ) (hs : List Held) → NoneOf m hs → (back : List Held) → goes_back m (hs ++ back) ≡ kept hs (goes_back m back)
 unfolding kept
-looked_none m xs i none all = record { left = (λ j. kept (reverse (sym none j)) (goes_back m (reverse (sym all j)))) }
+passed_by m [] none back = refl
+passed_by m (h ∷ hs) none back =
+    ap (λ t. if_so t (λ _. Some (h.byte, hs ++ back)) (λ _. keep_held h (goes_back m (hs ++ back)))) (ne_eqb h.by m (none 0 h (omega arith)))
+    ∙ ap (keep_held h) (passed_by m hs (λ k d inside. none (suc k) d (omega arith)) back)
 
-module _ (m : ℕ) (xs : List Held) (i : ℕ) (x : Held) (some : 0 < i) (within : i ≤ length xs) (read : x ≡ get_or xs (i - 1) x) (so : Looked m xs i) where
-  at_last : goes_back m (reverse xs) ≡ kept (reverse (drop i xs)) (goes_back m (x ∷ reverse (take (i - 1) xs)))
-  at_last = so.left ∙ ap (λ l. kept (reverse (drop i xs)) (goes_back m l)) (last_first xs i x some within read)
+-- the tokens behind a place, from the last one on
+none_behind : (m : ℕ) (ts : List Token) (low : ℕ) → AllWithin (λ (t : Token). t.by ≡ m → ⊥) ts low (length ts) → NoneOf m (reverse (drop low (map held ts)))
+none_behind m ts low none k d inside own =
+    let zs = map held ts in
+    let rest = drop low zs in
+    let long = length-map ts held in
+    let less : k < length rest = omega (arith, length-reverse rest) in
+    let short = length-drop low zs in
+    let at : ℕ = low + (length rest - 1 - k) in
+    let within : at < length ts = omega arith in
+    let t : Token = record { by = d.by; byte = d.byte } in
+    none at t (omega arith) within
+    (ap (λ h. h.by) (sym (get_or-map held ts at t d within) ∙ sym (get_or-drop low zs (length rest - 1 - k) d) ∙ sym (get_or-reverse rest k d less)) ∙ own)
 
-  pub looked_on : (x.by ≡ m → ⊥) → Looked m xs (i - 1)
-  looked_on other = record {
-    left =
-        at_last
-        ∙ ap (λ t. kept (reverse (drop i xs)) (if_so t (λ _. Some (x.byte, reverse (take (i - 1) xs))) (λ _. keep_held x (goes_back m (reverse (take (i - 1) xs)))))) (ne_eqb x.by m other)
-        ∙ sym (kept_one (reverse (drop i xs)) x (goes_back m (reverse (take (i - 1) xs))))
-        ∙ ap (λ l. kept l (goes_back m (reverse (take (i - 1) xs)))) (sym (first_last xs i x some within read));
-  }
+pub last_none : (m : ℕ) (ts : List Token) → AllWithin (λ (t : Token). t.by ≡ m → ⊥) ts 0 (length ts) → goes_back m (reverse (map held ts)) ≡ None
+last_none m ts none =
+    let hs = reverse (map held ts) in
+    ap (goes_back m) (sym (append-nil hs)) ∙ passed_by m hs (none_behind m ts 0 none) [] ∙ kept_none hs
 
-  pub looked_found : x.by ≡ m → goes_back m (reverse xs) ≡ Some (x.byte, reverse (drop i xs) ++ reverse (take (i - 1) xs))
-  looked_found own =
-      at_last
-      ∙ ap (λ t. kept (reverse (drop i xs)) (if_so t (λ _. Some (x.byte, reverse (take (i - 1) xs))) (λ _. keep_held x (goes_back m (reverse (take (i - 1) xs)))))) (eq-eqb x.by m own)
-      ∙ kept_some (reverse (drop i xs)) x.byte (reverse (take (i - 1) xs))
-
--- the same for the token that was read again, at its own place
-pub looked_last : (m : ℕ) (xs : List Held) (i : ℕ) (y : Held) → 0 < i → i ≤ length xs → y ≡ get_or xs (i - 1) y → Looked m xs i → y.by ≡ m → LastOf m xs (Some (i - 1))
-looked_last m xs i y some within read so own = (
-  omega arith,
-  λ x e.
-      let same : x ≡ y = get_or_read xs (i - 1) x (omega arith) e y ∙ sym read in
-      let up : i ≡ i - 1 + 1 = omega arith in
-      looked_found m xs i x some within e so (ap (λ h. h.by) same ∙ own) ∙ ap (λ n. Some (x.byte, reverse (drop n xs) ++ reverse (take (i - 1) xs))) up,
+pub last_some : (m : ℕ) (ts : List Token) (i : ℕ) → i < length ts → HoldsAt (λ (t : Token). t.by ≡ m) ts i → AllWithin (λ (t : Token). t.by ≡ m → ⊥) ts (i + 1) (length ts) → LastOf m (map held ts) (Some i)
+last_some m ts i inside own none = (
+  omega (arith, length-map ts held),
+  λ x read.
+      let zs = map held ts in
+      let back = reverse (take i zs) in
+      let behind = reverse (drop (i + 1) zs) in
+      let long = length-map ts held in
+      let low : i + 1 - 1 ≡ i = omega arith in
+      let t : Token = record { by = x.by; byte = x.byte } in
+      let mine : x.by ≡ m = ap (λ h. h.by) (read ∙ get_or-map held ts i t x inside) ∙ own t in
+      let split : reverse zs ≡ behind ++ x ∷ back =
+      ap reverse (sym (take-append-drop (i + 1) zs)) ∙ reverse-append (take (i + 1) zs) (drop (i + 1) zs)
+      ∙ ap (λ l. behind ++ l) (last_first zs (i + 1) x (omega arith) (omega arith) (read ∙ ap (λ j. get_or zs j x) (sym low)) ∙ ap (λ j. x ∷ reverse (take j zs)) low) in
+      ap (goes_back m) split ∙ passed_by m behind (none_behind m ts (i + 1) none) (x ∷ back)
+      ∙ ap (λ b. kept behind (if_so b (λ _. Some (x.byte, back)) (λ _. keep_held x (goes_back m back)))) (eq-eqb x.by m mine) ∙ kept_some behind x.byte back,
 )
-
-pub looked_all : (m : ℕ) (xs : List Held) (i : ℕ) → i ≡ 0 → Looked m xs i → goes_back m (reverse xs) ≡ None
-looked_all m xs i e so = so.left ∙ ap (λ n. kept (reverse (drop i xs)) (goes_back m (reverse (take n xs)))) e ∙ kept_none (reverse (drop i xs))
 
 -- those that pass a test, in a list turned round
 those_append : {A : Type 0} (p : A → Bool) (xs ys : List A) → those p (xs ++ ys) ≡ those p xs ++ those p ys

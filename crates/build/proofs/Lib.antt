@@ -1,3 +1,4 @@
+pub mod Chains
 pub mod Handing
 pub mod Shown
 pub mod Leading
@@ -8,7 +9,6 @@ pub mod Fitting
 pub mod Altering
 pub mod Settles
 pub mod Reaching
-pub mod Picking
 pub mod Descending
 pub mod Childless
 pub mod Returning

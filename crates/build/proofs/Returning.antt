@@ -1,9 +1,10 @@
 -- A token that goes back. Assumes nothing.
-use Rattle.std.proofs.Common.{◌≡◌, ℕ, ◌+◌, ◌<◌, ◌≤◌, Bool, true, false, eqb, List, [], ◌∷◌, length, Some, None, Option, sym, refl, ap, ◌∙◌, subst, arith}
+use Rattle.std.proofs.Common.{◌≡◌, ℕ, ◌+◌, ◌<◌, ◌≤◌, Bool, true, false, eqb, List, [], ◌∷◌, length, Some, None, Ok, Err, Option, Result, is_ok, sym, refl, ap, ◌∙◌, subst, arith}
 use Rattle.law.specs.Answers.{answering}
 use Rattle.pool.specs.Chain.{put_back}
 use Rattle.pool.specs.Meaning.{Returned, only}
-use Rattle.pool.specs.Ways.{Ways}
+use Rattle.pool.specs.Ways.{Ways, Put}
+use Rattle.pool.specs.declared.refusals.Refusal.{Refusal}
 use Rattle.rules.specs.Builds.{Build, with_tokens}
 use Rattle.rules.specs.Ending.{goes_back, keep_held, put_found, put_one}
 use Rattle.rules.specs.Lists.{if_so}
@@ -49,6 +50,10 @@ back_fewer m (h ∷ hs) byte hs' e = either (eqb h.by m) e (λ b r is. back_fewe
 -- what goes back is out, so that the pool takes it
 pub back_out : {P : Type 0} (w : Ways P) (p : P) (m : ℕ) (hs : List Held) (byte : ℕ) (hs' : List Held) → Backed w p hs → goes_back m hs ≡ Some (byte, hs') → 0 < (w.means p).outs byte
 back_out w p m hs byte hs' backed e = let some = (back_fewer m hs byte hs' e).counted byte in let held = backed byte in grind (arith, nat_tests)
+
+pub put_goes : {P : Type 0} (w : Ways P) (p q : P) (byte : ℕ) (r : Result Unit Refusal) → Put w p byte r q → 0 < (w.means p).outs byte → is_ok r ≡ true
+put_goes w p q byte (Ok _) put some = refl
+put_goes w p q byte (Err e) put some = absurd (omega (arith, put.1))
 
 pub backed_fewer : {P : Type 0} (w : Ways P) (p q : P) (m : ℕ) (hs : List Held) (byte : ℕ) (hs' : List Held) → Backed w p hs → goes_back m hs ≡ Some (byte, hs') → Returned (w.means p) byte (w.means q) → Backed w q hs'
 backed_fewer w p q m hs byte hs' backed e returned k = omega (arith, (back_fewer m hs byte hs' e).counted k, backed k, returned.outs k)

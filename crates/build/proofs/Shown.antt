@@ -1,8 +1,15 @@
 -- Tokens and losses, as the rules have them. Assumes nothing.
-use Rattle.std.proofs.Common.{◌≡◌, ℕ, suc, ◌-◌, ◌<◌, ◌≤◌, min, eqb, List, [], ◌∷◌, ◌++◌, map, reverse, length, get_or, take, drop, sym, refl, ap, ◌∙◌, ⊎_elim, arith}
+use Rattle.std.proofs.Common.{Iter, ◌≡◌, ℕ, suc, ◌-◌, ◌<◌, ◌≤◌, min, eqb, List, [], ◌∷◌, ◌++◌, map, reverse, length, get_or, take, drop, Some, None, Option, sym, refl, ap, ◌∙◌, ⊎_elim, arith}
 use Rattle.std.proofs.Math.Seq.{drop-append_seam, take-append_seam}
 use Rattle.std.proofs.lemmas.Bool.{cases_lt, eq-eqb, ne_eqb}
-use Rattle.std.proofs.lemmas.List.{drop_all, take_all, take-take, get_or-map, length-map, length-reverse, length-take, reverse-append}
+use Rattle.std.proofs.lemmas.Iterator.Adapters.{YieldsList-from_rev_slice}
+use Rattle.std.proofs.lemmas.Iterator.Consumers.{YieldsList-turn, YieldsList-end}
+use Rattle.std.proofs.lemmas.List.{drop_all, take_all, take-take, get_or-map, get_or-reverse, length-map, length-reverse, length-take, reverse-append}
+use Rattle.std.specs.Iterator.{Yields}
+use Rattle.std.specs.Iterator.Adapters.{rev_source, rev_steps}
+use Rattle.std.specs.Slice.Iter.{iter_rest, iter_steps_back}
+use Rattle.std.specs.declared.iter.Rev.{Rev}
+use denote.Ref.{Bor}
 use Rattle.rules.specs.Faults.{tokens_at}
 use Rattle.rules.specs.Lists.{if_so}
 use Rattle.build.specs.Lost.{losses_by, noted_losses}
@@ -88,3 +95,16 @@ left_all n ms bytes i end all whole = record { same = λ j. tokens_at n (losses_
 
 pub left_none : (n : ℕ) (ms : List Mark) (bytes : List ℕ) (i end : ℕ) → i ≡ 0 → Left n ms bytes i end → [] ≡ tokens_at n (losses_by (reverse ms) bytes)
 left_none n ms bytes i end none left = ap (λ k. tokens_at n (losses_by (reverse (take k ms)) (take end bytes))) (sym none) ∙ left.same
+
+-- the losses, one after the other from the last one on: the next one, and the end
+module _ (from : Rev (Iter Mark)) (ms : List Mark) (begins : iter_rest (rev_source from) ≡ ms) (seen : List (Bor Mark)) (it : Rev (Iter Mark)) (went : Yields (rev_steps iter_steps_back) from seen it) where
+  pub next_back : (r : Option (Bor Mark)) (u : Rev (Iter Mark)) (x : Bor Mark) → r ≡ Some x → rev_steps iter_steps_back it r u → (length seen < length ms) × (x.now ≡ get_or ms (length ms - length seen - 1) x.now)
+  next_back r u x is step =
+      let turn = YieldsList-turn (YieldsList-from_rev_slice ms begins) seen it went r u x is step in
+      let long = length-reverse ms in
+      let less : length seen < length ms = omega (arith, turn.0) in
+      let place : length ms - 1 - length seen ≡ length ms - length seen - 1 = omega arith in
+      (less, turn.1 ∙ get_or-reverse ms (length seen) x.now less ∙ ap (λ k. get_or ms k x.now) place)
+
+  pub none_left : (r : Option (Bor Mark)) (u : Rev (Iter Mark)) → r ≡ None → rev_steps iter_steps_back it r u → length ms - length seen ≡ 0
+  none_left r u is step = let end = YieldsList-end (YieldsList-from_rev_slice ms begins) seen it went r u is step in omega (arith, end.1, length-reverse ms)

@@ -1,22 +1,21 @@
 -- The way up after an end. Assumes nothing.
-use Rattle.std.proofs.Common.{◌≡◌, ℕ, zero, suc, ◌<◌, ◌≤◌, Bool, true, false, cond, eqb, List, [], ◌∷◌, ◌++◌, length, Some, None, Option, sym, refl, ap, ◌∙◌, subst, append-nil, arith}
+use Rattle.std.proofs.Common.{◌≡◌, ℕ, zero, suc, ◌<◌, ◌≤◌, Bool, true, false, cond, eqb, List, [], ◌∷◌, ◌++◌, length, Some, None, Ok, Err, Option, Result, is_err, sym, refl, ap, ◌∙◌, subst, append-nil, arith}
 use Rattle.law.specs.Answers.{Answers, answering}
 use Rattle.pool.specs.Chain.{Op}
 use Rattle.pool.specs.Ways.{Ways}
-use Rattle.rules.specs.Builds.{Build, at, is_running}
+use Rattle.rules.specs.Builds.{Build, at, is_running, with_node}
 use Rattle.rules.specs.Causes.{Ordered}
-use Rattle.rules.specs.Ending.{goes_back, put_found, put_one, ends_so, mark, finish, is_over, make_end, end_by}
+use Rattle.rules.specs.Ending.{goes_back, put_found, put_one, ends_so, mark, marked, finish, is_over, make_end, end_by}
 use Rattle.rules.specs.Events.{state_of}
 use Rattle.rules.specs.Lists.{if_so, is_some}
 use Rattle.rules.specs.Plans.{Plan}
 use Rattle.rules.specs.Settling.{Store, Run}
-use Rattle.rules.specs.declared.progress.End.{End}
-use Rattle.rules.specs.declared.progress.End.TheVariants as ends
 use Rattle.rules.specs.declared.progress.State.{State}
 use Rattle.rules.specs.declared.progress.State.TheVariants.{Waiting, Running, Good, Failed}
 use Rattle.rules.specs.Builds.{Held}
 use Rattle.schedule.specs.Buffers.{Wrote}
 use Rattle.schedule.specs.Records.{bytes}
+use Rattle.schedule.specs.declared.cause.Cause.{Cause}
 use Rattle.schedule.specs.declared.record.Record.{Record}
 use Rattle.schedule.specs.declared.record.Record.TheVariants.{Finished}
 use Rattle.schedule.proofs.Buffers.{wrote_none}
@@ -32,13 +31,13 @@ running_state Running e = refl
 running_state Good e = absurd (false≢true e)
 running_state (Failed c) e = absurd (false≢true e)
 
-module _ {P : Type 0} (w : Ways P) (b : Build) (how : End) (n : ℕ) where
+module _ {P : Type 0} (w : Ways P) (b : Build) (how : Result Unit Cause) (n : ℕ) where
   ends_as : (coming : List ℕ) (ops : List Op) (rs : List Record) → ends_so (state_of how) n (on b coming ops rs) ≡ on (ended_build how n b) coming ops (ended_record how n ∷ rs)
   ends_as coming ops rs = split how
     where
-      split : (h : End) → ends_so (state_of h) n (on b coming ops rs) ≡ on (ended_build h n b) coming ops (ended_record h n ∷ rs)
-      split ends.Well = refl
-      split (ends.Failed c) = refl
+      split : (h : Result Unit Cause) → ends_so (state_of h) n (on b coming ops rs) ≡ on (ended_build h n b) coming ops (ended_record h n ∷ rs)
+      split (Ok _) = refl
+      split (Err c) = refl
 
   -- node n ended, with its record
   pub ends_leads : (b' : Build) {p : P} {old new : List ℕ} {from to : ℕ} → b' ≡ ended_build how n b → Wrote old from (bytes (ended_record how n)) new to → Leads w (ends_so (state_of how) n) (λ r. r) (point b from p old) (point b' to p new)
@@ -54,9 +53,9 @@ module _ {P : Type 0} (w : Ways P) (b : Build) (how : End) (n : ℕ) where
   marks_as : (m : ℕ) (coming : List ℕ) (ops : List Op) (rs : List Record) → mark (state_of how) m n (on b coming ops rs) ≡ on (marked_build how m n b) coming ops rs
   marks_as m coming ops rs = split how
     where
-      split : (h : End) → mark (state_of h) m n (on b coming ops rs) ≡ on (marked_build h m n b) coming ops rs
-      split ends.Well = refl
-      split (ends.Failed c) = refl
+      split : (h : Result Unit Cause) → mark (state_of h) m n (on b coming ops rs) ≡ on (marked_build h m n b) coming ops rs
+      split (Ok _) = refl
+      split (Err c) = refl
 
   -- its make is marked
   pub mark_leads : (m : ℕ) (b' : Build) {p : P} {buffer : List ℕ} {from to : ℕ} → b' ≡ marked_build how m n b → to ≡ from → from ≤ length buffer → Leads w (mark (state_of how) m n) (λ r. r) (point b from p buffer) (point b' to p buffer)
@@ -171,17 +170,22 @@ top_leads w how n x y top a =
     (λ c o rs. refl) a
 
 -- a mark leaves the tokens, the tree, and whether the build keeps going
-pub marked_tokens : (how : End) (m n : ℕ) (b : Build) → (marked_build how m n b).tokens ≡ b.tokens
-marked_tokens ends.Well m n b = refl
-marked_tokens (ends.Failed c) m n b = refl
+pub marked_tokens : (how : Result Unit Cause) (m n : ℕ) (b : Build) → (marked_build how m n b).tokens ≡ b.tokens
+marked_tokens (Ok _) m n b = refl
+marked_tokens (Err c) m n b = refl
 
-pub marked_plan : (how : End) (m n : ℕ) (b : Build) → (marked_build how m n b).plan ≡ b.plan
-marked_plan ends.Well m n b = refl
-marked_plan (ends.Failed c) m n b = refl
+pub marked_plan : (how : Result Unit Cause) (m n : ℕ) (b : Build) → (marked_build how m n b).plan ≡ b.plan
+marked_plan (Ok _) m n b = refl
+marked_plan (Err c) m n b = refl
 
-pub marked_keep : (how : End) (m n : ℕ) (b : Build) → (marked_build how m n b).keep ≡ b.keep
-marked_keep ends.Well m n b = refl
-marked_keep (ends.Failed c) m n b = refl
+pub marked_keep : (how : Result Unit Cause) (m n : ℕ) (b : Build) → (marked_build how m n b).keep ≡ b.keep
+marked_keep (Ok _) m n b = refl
+marked_keep (Err c) m n b = refl
+
+-- the make of a node that failed
+pub marked_err : (how : Result Unit Cause) (m n : ℕ) (b : Build) → is_err how ≡ true → marked_build how m n b ≡ with_node b m (marked b.keep n (at b m))
+marked_err (Ok _) m n b e = absurd (false≢true e)
+marked_err (Err c) m n b e = refl
 
 -- a make that is over is live
 pub over_runs : (b : Build) (m : ℕ) → is_over b m ≡ true → (at b m).state ≡ Running

@@ -8,47 +8,31 @@ use tree::{Kind, Tree};
 pub(crate) fn kind_of(tree: &Tree, n: u32) -> Kind
     ensures { result ≡ (plan_of (nodes_of tree.now)).kind n }
 {
-    match tree.kind(n) {
-        Ok(kind) => kind,
-        Err(_) => Kind::Make,
-    }
+    tree.kind(n).unwrap_or(Kind::Make)
 }
 
 pub(crate) fn is_make(tree: &Tree, n: u32) -> bool
     ensures { result ≡ is_make (plan_of (nodes_of tree.now)) n }
 {
-    match kind_of(tree, n) {
-        Kind::Make => true,
-        Kind::Job | Kind::Fail => false,
-    }
+    kind_of(tree, n) == Kind::Make
 }
 
 // The make that the node belongs to; 0 for the top make.
 pub(crate) fn make_of(tree: &Tree, n: u32) -> u32
     ensures { result ≡ (plan_of (nodes_of tree.now)).make n }
 {
-    match tree.make(n) {
-        Ok(Some(make)) => make,
-        Ok(None) => 0,
-        Err(_) => 0,
-    }
+    tree.make(n).unwrap_or(None).unwrap_or(0)
 }
 
 pub(crate) fn steps_of(tree: &Tree, n: u32) -> u32
     ensures { result ≡ (plan_of (nodes_of tree.now)).steps n }
 {
-    match tree.steps(n) {
-        Ok(steps) => steps,
-        Err(_) => 0,
-    }
+    tree.steps(n).unwrap_or(0)
 }
 
 // Whether a wait stands before the node.
 pub(crate) fn has_wait(tree: &Tree, n: u32) -> bool
     ensures { result ≡ (plan_of (nodes_of tree.now)).wait n }
 {
-    match tree.wait(n) {
-        Ok(wait) => wait,
-        Err(_) => false,
-    }
+    tree.wait(n).unwrap_or(false)
 }

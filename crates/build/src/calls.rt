@@ -25,9 +25,7 @@ impl Work {
         ensures unaltered { OnErr result (self.new ≡ self.old) }
         ensures still { Still self.old (reach self.old) self.new }
     {
-        if let Some(refusal) = self.job_refusal(pool, buffer.len(), n) {
-            return Err(refusal);
-        }
+        self.check_job(pool, buffer.len(), n)?;
         self.work_on(n, pool, buffer);
         self.settle(pool, buffer);
         Ok(self.count_running())
@@ -46,9 +44,7 @@ impl Work {
         ensures unaltered { OnErr result (self.new ≡ self.old) }
         ensures still { Still self.old (reach self.old) self.new }
     {
-        if let Some(refusal) = self.job_refusal(pool, buffer.len(), n) {
-            return Err(refusal);
-        }
+        self.check_job(pool, buffer.len(), n)?;
         self.kill_one(n, pool, buffer);
         self.settle(pool, buffer);
         Ok(self.count_running())
@@ -66,9 +62,7 @@ impl Work {
         ensures unaltered { OnErr result (self.new ≡ self.old) }
         ensures still { Still self.old (reach self.old) self.new }
     {
-        if let Some(refusal) = self.call_refusal(pool, buffer.len()) {
-            return Err(refusal);
-        }
+        self.check_call(pool, buffer.len())?;
         self.settle(pool, buffer);
         Ok(self.count_running())
     }

@@ -22,19 +22,19 @@ use crate::losses::Losses;
 use crate::tokens::Tokens;
 use crate::work::Work;
 use pool::Lender;
-use rules::{End, Event};
+use rules::Event;
 use schedule::cause::Cause;
 use schedule::record::Record;
 use tree::Tree;
 
 // The record of a node that ended so.
-fn end_record(n: u32, how: End) -> Record
+fn end_record(n: u32, how: Result<(), Cause>) -> Record
     requires byte { n < 256 }
     ensures { result ≡ ended_record how n }
 {
     match how {
-        End::Well => Record::EndedWell { node: n as u8 },
-        End::Failed(cause) => Record::EndedFailed {
+        Ok(()) => Record::EndedWell { node: n as u8 },
+        Err(cause) => Record::EndedFailed {
             node: n as u8,
             cause: cause.number(),
         },
@@ -42,20 +42,20 @@ fn end_record(n: u32, how: End) -> Record
 }
 
 // Notes, when node n ends so, the tokens of its make: for a job that fails.
-fn note_loss(tree: &Tree, tokens: &Tokens, n: u32, how: End, losses: &mut Losses)
+fn note_loss(tree: &Tree, tokens: &Tokens, n: u32, how: Result<(), Cause>, losses: &mut Losses)
     requires listed { vec_len losses.old.jobs < vec_capacity losses.old.jobs }
     requires room { vec_len losses.old.bytes + vec_len tokens.now.held ≤ vec_capacity losses.old.bytes }
     ensures after { noted_losses losses.new ≡ noted_at how n (plan_of (nodes_of tree.now)) (in_hand tokens.now) (noted_losses losses.old) }
     ensures memory { Grown losses.old (vec_len tokens.now.held) losses.new }
 {
-    if matches!(how, End::Failed(_)) && !is_make(tree, n) {
+    if how.is_err() && !is_make(tree, n) {
         losses.note(tokens, make_of(tree, n), n);
     }
 }
 
 impl Work {
     // Node n ends so: for a job that fails, the tokens of its make are noted.
-    fn end_one(&mut self, n: u32, how: End, buffer: &mut [u8])
+    fn end_one(&mut self, n: u32, how: Result<(), Cause>, buffer: &mut [u8])
         requires fit { FitBut n self.old }
         requires node { n < (model self.old).plan.nodes }
         requires runs { (at (model self.old) n).state ≡ Running }
@@ -79,9 +79,7 @@ impl Work {
         let Some(byte) = self.tokens.give_back(m) else {
             return;
         };
-        if let Err(_) = pool.put(byte) {
-            unreachable();
-        }
+        pool.put(byte).unwrap();
         self.note(
             Record::PutBack {
                 make: m as u8,
@@ -92,23 +90,23 @@ impl Work {
     }
 
     // The make of a node that ended so is marked, if it failed.
-    fn mark(&mut self, how: End, m: u32, n: u32)
+    fn mark(&mut self, how: Result<(), Cause>, m: u32, n: u32)
         requires fit { Fit self.old }
         requires node { m < (model self.old).plan.nodes }
         ensures after { Remade self.old (marked_build how m n (model self.old)) self.new }
     {
-        if let End::Failed(_) = how {
+        if how.is_err() {
             self.nodes[m as usize].mark(self.keep, n);
         }
     }
 
     // How the make ends: failed if a child of it failed.
-    fn make_end(&self, m: u32) -> End
+    fn make_end(&self, m: u32) -> Result<(), Cause>
         ensures { state_of result ≡ make_end (at (model self.now) m) }
     {
         match self.progress(m).first_failed {
-            Some(_) => End::Failed(Cause::FailedChild),
-            None => End::Well,
+            Some(_) => Err(Cause::FailedChild),
+            None => Ok(()),
         }
     }
 
@@ -120,14 +118,21 @@ impl Work {
         let failed = self.progress(0).first_failed.is_some();
         self.note(
             Record::Finished {
-                failed: failed as u8,
+                failed: u8::from(failed),
             },
             buffer,
         );
     }
 
     // Node n ends so; its make puts a token back, if it holds any, and is marked if n failed.
-    fn end_child<P: Lender>(&mut self, n: u32, m: u32, how: End, pool: &mut P, buffer: &mut [u8])
+    fn end_child<P: Lender>(
+        &mut self,
+        n: u32,
+        m: u32,
+        how: Result<(), Cause>,
+        pool: &mut P,
+        buffer: &mut [u8],
+    )
         requires fit { FitBut n self.old }
         requires backed { Backed P.Lender.ways pool.old (in_hand self.old.tokens) }
         requires nodes { (n < (model self.old).plan.nodes) × (m < (model self.old).plan.nodes) }
@@ -142,7 +147,13 @@ impl Work {
     }
 
     // Node n ends so, and what follows upwards: its make ends if it is over. The end of the top make is the finish.
-    pub(crate) fn end<P: Lender>(&mut self, n: u32, how: End, pool: &mut P, buffer: &mut [u8])
+    pub(crate) fn end<P: Lender>(
+        &mut self,
+        n: u32,
+        how: Result<(), Cause>,
+        pool: &mut P,
+        buffer: &mut [u8],
+    )
         requires fit { FitBut n self.old }
         requires backed { Backed P.Lender.ways pool.old (in_hand self.old.tokens) }
         requires node { n < (model self.old).plan.nodes }

@@ -50,10 +50,7 @@ pub(crate) struct Failure {
 fn level_of(tree: &Tree, n: u32) -> u32
     ensures { result ≡ (plan_of (nodes_of tree.now)).level n }
 {
-    match tree.level(n) {
-        Ok(level) => level,
-        Err(_) => 0,
-    }
+    tree.level(n).unwrap_or(0)
 }
 
 impl Work {
@@ -70,10 +67,7 @@ impl Work {
             if !is_make(&self.tree, k) {
                 return Some(Failure { job: k, cause });
             }
-            let Some(child) = node.first_failed else {
-                return None;
-            };
-            k = child;
+            k = node.first_failed?;
         }
         None
     }
@@ -83,9 +77,7 @@ impl Work {
     pub(crate) fn fault(&self, heap: Global, n: u32, place: &mut Fault) -> Result<bool, Unanswered>
         ensures after { Filled (model self.now) n place.old result place.new }
     {
-        if n >= self.tree.count() {
-            return Err(Unanswered::NotInTree);
-        }
+        self.node(n)?;
         let Some(failure) = self.failure(n) else {
             return Ok(false);
         };

@@ -15,7 +15,7 @@ ghost use Rattle.rules.specs.Plans.{all_makes, needed};
 use crate::asking::is_make;
 use crate::work::Work;
 use pool::Lender;
-use rules::{End, Refusal};
+use rules::Refusal;
 use schedule::cause::Cause;
 use schedule::record::Record;
 
@@ -51,7 +51,7 @@ impl Work {
     {
         for n in 0..self.tree.count() {
             if self.runs_as_job(n) {
-                self.end(n, End::Failed(Cause::Halt), pool, buffer);
+                self.end(n, Err(Cause::Halt), pool, buffer);
             }
         }
     }
@@ -68,9 +68,7 @@ impl Work {
         ensures unaltered { OnErr result (self.new ≡ self.old) }
         ensures fit { Fit self.new }
     {
-        if let Some(refusal) = self.call_refusal(pool, buffer.len()) {
-            return Err(refusal);
-        }
+        self.check_call(pool, buffer.len())?;
         self.note(Record::Halt, buffer);
         self.stop_makes();
         self.end_jobs(pool, buffer);

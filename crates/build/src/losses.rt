@@ -40,8 +40,7 @@ impl Losses {
         ensures result { IfOk result (λ v. v.items ≡ tokens_at n (noted_losses self.now)) }
     {
         let mut end = self.bytes.len();
-        for i in (0..self.jobs.len()).rev() {
-            let loss = self.jobs[i];
+        for loss in self.jobs.iter().rev() {
             let from = loss.from.min(end);
             if loss.job == n {
                 return Vec::from_slice(heap, &self.bytes[from..end]);

@@ -12,9 +12,6 @@ impl Work {
         requires room { self.old.written + size event ≤ length buffer.old }
         ensures after { Noted self.old buffer.old event self.new buffer.new }
     {
-        match event.write(buffer, self.written) {
-            Ok(end) => self.written = end,
-            Err(_) => unreachable(),
-        }
+        self.written = event.write(buffer, self.written).unwrap();
     }
 }

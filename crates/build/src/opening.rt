@@ -14,7 +14,7 @@ ghost use Rattle.schedule.specs.declared.record.Record.TheVariants.{Open};
 ghost use Rattle.tree.specs.Questions.{nodes_of, fresh};
 
 use crate::losses::Losses;
-use crate::refusals::open_refusal;
+use crate::refusals::check_open;
 use crate::searches::UNBEGUN;
 use crate::tokens::Tokens;
 use crate::work::Work;
@@ -26,13 +26,6 @@ use tree::Tree;
 
 // The most nodes that a tree has, and the most tokens that a make may hold.
 const MOST_NODES: usize = 200;
-
-// A flag as a field of a record.
-fn flag(set: bool) -> u8
-    ensures { result ≡ bit set }
-{
-    if set { 1 } else { 0 }
-}
 
 // How many tokens are in the pool.
 fn total_in<P: Lender>(pool: &P) -> u32
@@ -94,7 +87,7 @@ impl Work {
         ensures after { Changed self.old buffer.old (in_state (model self.old) 0 Running) (Open (tokens + 1) (bit self.old.keep) (model self.old).plan.nodes) 0 self.new buffer.new }
     {
         self.nodes[0].accept(Event::Start);
-        let keep = flag(self.keep);
+        let keep = u8::from(self.keep);
         let nodes = self.tree.count() as u8;
         self.note(
             Record::Open {
@@ -119,9 +112,7 @@ impl Work {
         ensures fit { Fit self.new }
         ensures unaltered { OnErr result (self.new ≡ self.old) }
     {
-        if let Some(refusal) = open_refusal(tree, pool, buffer.len()) {
-            return Err(refusal);
-        }
+        check_open(tree, pool, buffer.len())?;
         let tokens = total_in(pool);
         self.renew(tree, keep);
         self.begin(tokens, buffer);

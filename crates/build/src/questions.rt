@@ -8,47 +8,43 @@ ghost use Rattle.rules.specs.Plans.{children, needed};
 ghost use Rattle.rules.specs.Startable.{startable};
 ghost use Rattle.tree.specs.Questions.{asked};
 
-use crate::asking::make_of;
 use crate::work::Work;
-use rules::State;
+use rules::{Progress, State};
 use std::alloc::{AllocError, Global};
 use tree::Unanswered;
 
 impl Work {
-    // Whether the node waits or runs, or how it ended.
-    pub(crate) fn state(&self, n: u32) -> Result<State, Unanswered>
-        ensures result { result ≡ asked self.now.tree n (at (model self.now) n).state }
+    // How far the node is, if it is in the tree.
+    pub(crate) fn node(&self, n: u32) -> Result<Progress, Unanswered>
+        ensures { result ≡ asked self.now.tree n (at (model self.now) n) }
     {
         if n >= self.tree.count() {
             return Err(Unanswered::NotInTree);
         }
-        Ok(self.progress(n).state)
+        Ok(self.progress(n))
+    }
+
+    // Whether the node waits or runs, or how it ended.
+    pub(crate) fn state(&self, n: u32) -> Result<State, Unanswered>
+        ensures result { result ≡ asked self.now.tree n (at (model self.now) n).state }
+    {
+        Ok(self.node(n)?.state)
     }
 
     // The steps that the node has done.
     pub(crate) fn steps_done(&self, n: u32) -> Result<u32, Unanswered>
         ensures result { result ≡ asked self.now.tree n (at (model self.now) n).done }
     {
-        if n >= self.tree.count() {
-            return Err(Unanswered::NotInTree);
-        }
-        Ok(self.progress(n).done)
+        Ok(self.node(n)?.done)
     }
 
     // How many of the nodes that belong to make m run.
     fn count_under(&self, m: u32) -> u32
         ensures result { result ≡ length (those (running (model self.now)) (children (model self.now).plan m)) }
     {
-        let mut found = 0;
-        for k in 1..self.tree.count() {
-            if make_of(&self.tree, k) != m {
-                continue;
-            }
-            if self.progress(k).state.is_running() {
-                found += 1;
-            }
-        }
-        found
+        (1..self.tree.count())
+            .filter(|k| self.runs_under(*k, m))
+            .count() as u32
     }
 
     // How many children of the make run; 0 for a job, which has none.
@@ -56,9 +52,7 @@ impl Work {
         ensures result { result ≡ asked self.now.tree m (length (those (running (model self.now)) (children (model self.now).plan m))) }
         ensures law { ChildlessJob (model self.now).plan m }
     {
-        if m >= self.tree.count() {
-            return Err(Unanswered::NotInTree);
-        }
+        self.node(m)?;
         Ok(self.count_under(m))
     }
 
@@ -66,9 +60,7 @@ impl Work {
     pub(crate) fn startable_child(&self, m: u32) -> Result<Option<u32>, Unanswered>
         ensures result { result ≡ asked self.now.tree m (startable (model self.now) m) }
     {
-        if m >= self.tree.count() {
-            return Err(Unanswered::NotInTree);
-        }
+        self.node(m)?;
         Ok(self.startable(m))
     }
 
@@ -76,13 +68,8 @@ impl Work {
     fn tokens_of(&self, heap: Global, m: u32) -> Result<Vec<u8>, AllocError>
         ensures result { IfOk result (λ v. v.items ≡ tokens_of (model self.now) m) }
     {
-        let mut found = Vec::new(heap);
-        for i in 0..self.tokens.held.len() {
-            let token = self.tokens.held[i];
-            if token.by == m {
-                found.push(token.byte)?;
-            }
-        }
+        let mut found = Vec::with_capacity(heap, self.tokens.held.len())?;
+        self.tokens.add_bytes(m, &mut found);
         Ok(found)
     }
 
@@ -90,13 +77,8 @@ impl Work {
     pub(crate) fn held_tokens(&self, heap: Global, m: u32) -> Result<Vec<u8>, Unanswered>
         ensures result { Listed self.now.tree m (tokens_of (model self.now) m) result }
     {
-        if m >= self.tree.count() {
-            return Err(Unanswered::NotInTree);
-        }
-        match self.tokens_of(heap, m) {
-            Ok(found) => Ok(found),
-            Err(_) => Err(Unanswered::NoMemory),
-        }
+        self.node(m)?;
+        self.tokens_of(heap, m).map_err(|_| Unanswered::NoMemory)
     }
 
     // How many jobs run.

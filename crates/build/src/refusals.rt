@@ -5,6 +5,7 @@ ghost use Rattle.pool.specs.Meaning.{total};
 ghost use Rattle.rules.specs.Plans.{plan_of};
 ghost use Rattle.rules.specs.Refusing.{short_of, number, open_refusal, call_refusal, job_refusal};
 ghost use Rattle.std.specs.Option.{option_map};
+ghost use Rattle.std.specs.Result.{result_err};
 ghost use Rattle.tree.specs.Questions.{nodes_of};
 
 use crate::work::Work;
@@ -12,17 +13,17 @@ use pool::{Lender, Pool};
 use rules::Refusal;
 use tree::Tree;
 
-// Why a build of this tree is not opened on this pool, with a buffer of so many bytes.
-pub(crate) fn open_refusal<P: Pool>(tree: &Tree, pool: &P, room: usize) -> Option<Refusal>
-    ensures { option_map number result ≡ open_refusal (plan_of (nodes_of tree.now)) (total (P.Lender.ways.means pool.now).outs) room }
+// Whether a build of this tree may be opened on this pool, with a buffer of so many bytes.
+pub(crate) fn check_open<P: Pool>(tree: &Tree, pool: &P, room: usize) -> Result<(), Refusal>
+    ensures { option_map number (result_err result) ≡ open_refusal (plan_of (nodes_of tree.now)) (total (P.Lender.ways.means pool.now).outs) room }
 {
     if pool.total_out() > 0 {
-        return Some(Refusal::TokensOut);
+        return Err(Refusal::TokensOut);
     }
     if room < tree.schedule_len() as usize {
-        return Some(Refusal::ShortBuffer);
+        return Err(Refusal::ShortBuffer);
     }
-    None
+    Ok(())
 }
 
 impl Work {
@@ -30,41 +31,35 @@ impl Work {
     fn is_short<P: Lender>(&self, pool: &P) -> bool
         ensures { result ≡ short_of (model self.now) (P.Lender.ways.means pool.now).outs }
     {
-        for i in (0..self.tokens.held.len()).rev() {
-            let byte = self.tokens.held[i].byte;
-            if (pool.count_out(byte) as usize) < self.tokens.count(byte) {
-                return true;
-            }
-        }
-        false
+        let tokens = &self.tokens;
+        tokens.held.iter().any(|token| (pool.count_out(token.byte) as usize)
+            < tokens.count(token.byte))
     }
 
-    // Why a call on this pool, with a buffer of so many bytes, is refused.
-    pub(crate) fn call_refusal<P: Lender>(&self, pool: &P, room: usize) -> Option<Refusal>
-        ensures { option_map number result ≡ call_refusal (model self.now) (P.Lender.ways.means pool.now).outs room }
+    // Whether a call may be made on this pool, with a buffer of so many bytes.
+    pub(crate) fn check_call<P: Lender>(&self, pool: &P, room: usize) -> Result<(), Refusal>
+        ensures { option_map number (result_err result) ≡ call_refusal (model self.now) (P.Lender.ways.means pool.now).outs room }
     {
         if room < self.tree.schedule_len() as usize {
-            return Some(Refusal::ShortBuffer);
+            return Err(Refusal::ShortBuffer);
         }
         if !self.progress(0).state.is_running() {
-            return Some(Refusal::Finished);
+            return Err(Refusal::Finished);
         }
         if self.is_short(pool) {
-            return Some(Refusal::TokensMissing);
+            return Err(Refusal::TokensMissing);
         }
-        None
+        Ok(())
     }
 
-    // Why a step or a kill of node n is refused.
-    pub(crate) fn job_refusal<P: Lender>(&self, pool: &P, room: usize, n: u32) -> Option<Refusal>
-        ensures { option_map number result ≡ job_refusal (model self.now) (P.Lender.ways.means pool.now).outs room n }
+    // Whether a step or a kill of node n may be made.
+    pub(crate) fn check_job<P: Lender>(&self, pool: &P, room: usize, n: u32) -> Result<(), Refusal>
+        ensures { option_map number (result_err result) ≡ job_refusal (model self.now) (P.Lender.ways.means pool.now).outs room n }
     {
-        if let Some(refusal) = self.call_refusal(pool, room) {
-            return Some(refusal);
-        }
+        self.check_call(pool, room)?;
         if !self.runs_as_job(n) {
-            return Some(Refusal::NotRunningJob);
+            return Err(Refusal::NotRunningJob);
         }
-        None
+        Ok(())
     }
 }

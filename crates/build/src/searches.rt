@@ -27,14 +27,11 @@ impl Work {
     pub(crate) fn progress(&self, n: u32) -> Progress
         ensures { result ≡ at (model self.now) n }
     {
-        if n as usize >= self.nodes.len() {
-            return UNBEGUN;
-        }
-        self.nodes[n as usize]
+        self.nodes.get(n as usize).copied().unwrap_or(UNBEGUN)
     }
 
     // Whether node k is a running child of make m.
-    fn runs_under(&self, k: u32, m: u32) -> bool
+    pub(crate) fn runs_under(&self, k: u32, m: u32) -> bool
         ensures { result ≡ runs_under (model self.now) m k }
     {
         make_of(&self.tree, k) == m && self.progress(k).state.is_running()
@@ -58,24 +55,14 @@ impl Work {
     pub(crate) fn has_running(&self, m: u32) -> bool
         ensures { result ≡ has_running (model self.now) m }
     {
-        for k in 1..self.tree.count() {
-            if self.runs_under(k, m) {
-                return true;
-            }
-        }
-        false
+        (1..self.tree.count()).any(|k| self.runs_under(k, m))
     }
 
     // Whether some child of the make has not begun.
     pub(crate) fn has_waiting(&self, m: u32) -> bool
         ensures { result ≡ has_waiting (model self.now) m }
     {
-        for k in 1..self.tree.count() {
-            if self.waits_under(k, m) {
-                return true;
-            }
-        }
-        false
+        (1..self.tree.count()).any(|k| self.waits_under(k, m))
     }
 
     // Whether the make is to end: it is live, no child of it runs, and it is stopped or has none left to start.
@@ -90,13 +77,9 @@ impl Work {
     pub(crate) fn count_running(&self) -> u32
         ensures { result ≡ length (running_jobs (model self.now)) }
     {
-        let mut jobs = 0;
-        for k in 0..self.tree.count() {
-            if self.runs_as_job(k) {
-                jobs += 1;
-            }
-        }
-        jobs
+        (0..self.tree.count())
+            .filter(|k| self.runs_as_job(*k))
+            .count() as u32
     }
 
     // Whether all children before the nearest wait have ended, up to node k: from now on those before its own wait.
@@ -144,10 +127,8 @@ impl Work {
         if !is_make(&self.tree, m) {
             return None;
         }
-        match self.startable(m) {
-            Some(child) => Some(Start { make: m, child }),
-            None => None,
-        }
+        let child = self.startable(m)?;
+        Some(Start { make: m, child })
     }
 
     // The start that it may make in its implicit slot.
@@ -164,23 +145,13 @@ impl Work {
     pub(crate) fn next_in_slot(&self) -> Option<Start>
         ensures { option_map may_start result ≡ next_in_slot (model self.now) }
     {
-        for m in 0..self.tree.count() {
-            if let Some(start) = self.slot_start_by(m) {
-                return Some(start);
-            }
-        }
-        None
+        (0..self.tree.count()).find_map(|m| self.slot_start_by(m))
     }
 
     // The start of the make that takes the next token: the lowest that may start a child.
     pub(crate) fn next_with_token(&self) -> Option<Start>
         ensures { option_map may_start result ≡ next_with_token (model self.now) }
     {
-        for m in 0..self.tree.count() {
-            if let Some(start) = self.start_by(m) {
-                return Some(start);
-            }
-        }
-        None
+        (0..self.tree.count()).find_map(|m| self.start_by(m))
     }
 }

@@ -20,13 +20,7 @@ impl Tokens {
     pub(crate) fn count(&self, byte: u8) -> usize
         ensures { result ≡ in_hands byte (in_hand self.now) }
     {
-        let mut found = 0;
-        for i in (0..self.held.len()).rev() {
-            if self.held[i].byte == byte {
-                found += 1;
-            }
-        }
-        found
+        self.held.iter().filter(|token| token.byte == byte).count()
     }
 
     // The make takes a token into its hand.
@@ -43,12 +37,7 @@ impl Tokens {
     fn last_of(&self, make: u32) -> Option<usize>
         ensures { LastOf make (map held self.now.held.items) result }
     {
-        for i in (0..self.held.len()).rev() {
-            if self.held[i].by == make {
-                return Some(i);
-            }
-        }
-        None
+        self.held.iter().rposition(|token| token.by == make)
     }
 
     // The token of the make that goes back: the one that it took last.
@@ -67,8 +56,7 @@ impl Tokens {
         ensures len { vec_len bytes.new ≤ vec_len bytes.old + vec_len self.now.held }
         ensures capacity { vec_capacity bytes.new ≡ vec_capacity bytes.old }
     {
-        for i in 0..self.held.len() {
-            let token = self.held[i];
+        for token in &self.held {
             if token.by == make {
                 bytes.push_reserved(token.byte);
             }

@@ -19,18 +19,18 @@ ghost use Rattle.schedule.specs.declared.record.Record.TheVariants as records;
 use crate::asking::{kind_of, steps_of};
 use crate::work::Work;
 use pool::Lender;
-use rules::{End, Event};
+use rules::Event;
 use schedule::cause::Cause;
 use schedule::record::Record;
 use tree::Kind;
 
 // How a job ends after its last step.
-fn last_end(kind: Kind) -> End
+fn last_end(kind: Kind) -> Result<(), Cause>
     ensures { state_of result ≡ last_step kind }
 {
     match kind {
-        Kind::Make | Kind::Job => End::Well,
-        Kind::Fail => End::Failed(Cause::Script),
+        Kind::Make | Kind::Job => Ok(()),
+        Kind::Fail => Err(Cause::Script),
     }
 }
 
@@ -76,6 +76,6 @@ impl Work {
         ensures kept { Kept P.Lender.ways self.old (reach self.old) self.new pool.new }
     {
         self.note(Record::Kill { job: n as u8 }, buffer);
-        self.end(n, End::Failed(Cause::Kill), pool, buffer);
+        self.end(n, Err(Cause::Kill), pool, buffer);
     }
 }

@@ -1,17 +1,16 @@
 -- Which events each state of a node accepts, and what they do.
-use Rattle.std.specs.Prelude.{◌+◌, Bool, true, false, cond, nat_lt}
-use Rattle.rules.specs.declared.progress.End.{End}
-use Rattle.rules.specs.declared.progress.End.TheVariants as ends
+use Rattle.std.specs.Prelude.{◌+◌, Bool, true, false, cond, nat_lt, Ok, Err, Result}
 use Rattle.rules.specs.declared.progress.Event.{Event}
 use Rattle.rules.specs.declared.progress.Event.TheVariants as events
 use Rattle.rules.specs.declared.progress.Progress.{Progress}
 use Rattle.rules.specs.declared.progress.State.{State}
 use Rattle.rules.specs.declared.progress.State.TheVariants.{Waiting, Running, Good, Failed}
+use Rattle.schedule.specs.declared.cause.Cause.{Cause}
 
 -- the state of a node that ended so
-abbrev pub state_of : End → State
-state_of ends.Well = Good
-state_of (ends.Failed c) = Failed c
+abbrev pub state_of : Result Unit Cause → State
+state_of (Ok _) = Good
+state_of (Err c) = Failed c
 
 -- waiting a start
 abbrev pub accepts_start : State → Bool

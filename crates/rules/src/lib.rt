@@ -7,6 +7,6 @@ mod refusal;
 mod serving;
 
 pub use cases::{worked_cases, worked_layers};
-pub use progress::{End, Event, Progress, State};
+pub use progress::{Event, Progress, State};
 pub use refusal::Refusal;
 pub use serving::{makes_are_served, records_tell, settling_is_so, tokens_go_back};

@@ -32,20 +32,14 @@ impl State {
     }
 }
 
-// How a node ends.
-#[derive(Clone, Copy)]
-pub enum End {
-    Well,
-    Failed(Cause),
-}
-
 // What may happen to a node.
 #[derive(Clone, Copy)]
 pub enum Event {
     Start,
     // a step of a job that has so many
     Step(u32),
-    End(End),
+    // it ends well, or as failed for a cause
+    End(Result<(), Cause>),
 }
 
 #[derive(Clone, Copy)]
@@ -69,8 +63,8 @@ impl Progress {
         match (self.state, event) {
             (State::Waiting, Event::Start) => self.state = State::Running,
             (State::Running, Event::Step(steps)) if self.done < steps => self.done += 1,
-            (State::Running, Event::End(End::Well)) => self.state = State::Good,
-            (State::Running, Event::End(End::Failed(cause))) => self.state = State::Failed(cause),
+            (State::Running, Event::End(Ok(()))) => self.state = State::Good,
+            (State::Running, Event::End(Err(cause))) => self.state = State::Failed(cause),
             _ => return false,
         }
         true

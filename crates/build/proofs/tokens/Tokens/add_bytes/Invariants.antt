@@ -3,8 +3,8 @@ use Rattle.build.specs.Models.{held}
 use Rattle.build.proofs.Handing.{Adding}
 use Rattle.build.proofs.tokens.Tokens.add_bytes.Given as goal
 
-abbrev pub invariant-loop-i : goal.invariant-loop-i
-invariant-loop-i l =
-    Adding l.make (map held (vec_items l.self.held)) (vec_items l.initial.bytes) l.i (vec_items l.bytes)
-    × (vec_len l.bytes + (vec_len l.self.held - l.i) ≤ vec_len l.initial.bytes + vec_len l.self.held)
+abbrev pub invariant-loop-token : goal.invariant-loop-token
+invariant-loop-token l =
+    Adding l.make (map held (vec_items l.self.held)) (vec_items l.initial.bytes) l.token-index (vec_items l.bytes)
+    × (vec_len l.bytes + (vec_len l.self.held - l.token-index) ≤ vec_len l.initial.bytes + vec_len l.self.held)
     × (vec_capacity l.bytes ≡ vec_capacity l.initial.bytes)

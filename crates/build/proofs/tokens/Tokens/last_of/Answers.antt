@@ -1,33 +1,21 @@
-use Rattle.std.proofs.Common.{◌-◌, map, vec_items, arith}
-use Rattle.std.proofs.lemmas.List.{length-map, take_all, drop_all}
+use Rattle.std.proofs.Common.{rules, tests, ◌≡◌, ◌+◌, ◌<◌, ℕ, List, map, length, Some, None, Option}
+use Rattle.std.specs.List.{AllWithin, HoldsAt}
+use Rattle.std.specs.Option.{MatchOption}
+use Rattle.build.specs.Hands.{LastOf}
 use Rattle.build.specs.Models.{held}
-use Rattle.build.proofs.Handing.{looked_none, looked_on, looked_last, looked_all}
-use Rattle.build.proofs.Shown.{stands}
+use Rattle.build.specs.declared.tokens.Token.{Token}
+use Rattle.build.proofs.Handing.{last_none, last_some}
 use Rattle.build.proofs.tokens.Tokens.last_of.Goals as goal
 
-pub loop-i-init : goal.loop-i-init
-loop-i-init c =
-    let own = c.args.self.now.held in
-    let xs = map held (vec_items own) in
-    let n = c.len-i.result in
-    let long = length-map (vec_items own) held in
-    looked_none _ xs n (drop_all n xs (omega (arith, own.ok.0))) (take_all n xs (omega (arith, own.ok.0)))
+-- where the search stopped
+abbrev Found : ℕ → List Token → Option ℕ → Type 0
+Found m ts r = MatchOption r (AllWithin (λ (t : Token). t.by ≡ m → ⊥) ts 0 (length ts)) (λ i. (i < length ts) × HoldsAt (λ (t : Token). t.by ≡ m) ts i × AllWithin (λ (t : Token). t.by ≡ m → ⊥) ts (i + 1) (length ts))
 
-pub returns-then-index-make : goal.returns-then-index-make
-returns-then-index-make c =
-    let own = c.args.self.now.held in
-    let i = c.loop-i.i in
-    let x = c.index.result.now in
-    let at = stands (vec_items own) (i - 1) x (omega (arith, own.ok.0, c.loop-i-test.true)) c.index.ensures in
-    looked_last c.args.make (map held (vec_items own)) i (held x) c.loop-i-test.true (omega (arith, at.within)) at.is c.loop-i.invariant c.if-index-make.true
-
-pub loop-i-preserved : goal.loop-i-preserved
-loop-i-preserved c =
-    let own = c.args.self.now.held in
-    let i = c.loop-i.i in
-    let x = c.index.result.now in
-    let at = stands (vec_items own) (i - 1) x (omega (arith, own.ok.0, c.loop-i-test.true)) c.index.ensures in
-    looked_on c.args.make (map held (vec_items own)) i (held x) c.loop-i-test.true (omega (arith, at.within)) at.is c.loop-i.invariant c.if-index-make.false
+stopped : (m : ℕ) (ts : List Token) (r : Option ℕ) → Found m ts r → LastOf m (map held ts) r
+stopped m ts None none = last_none m ts none
+stopped m ts (Some i) found = last_some m ts i found.0 found.1 found.2
 
 pub returns : goal.returns
-returns c = looked_all c.args.make (map held (vec_items c.args.self.now.held)) c.loop-i.i (omega arith) c.loop-i.invariant
+returns c =
+    let found : Found c.args.make c.args.self.now.held.items c.rposition.result = search (rules, tests) in
+    stopped c.args.make c.args.self.now.held.items c.rposition.result found

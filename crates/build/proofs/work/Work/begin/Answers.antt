@@ -1,6 +1,7 @@
-use Rattle.std.proofs.Common.{◌≡◌, ◌+◌, ◌<◌, length, refl, ap, subst, arith}
+use Rattle.std.proofs.Common.{◌≡◌, ℕ, ◌+◌, ◌<◌, Bool, true, false, length, refl, ap, subst, arith}
 use Rattle.rules.specs.Builds.{at, in_state, with_node, with_state}
 use Rattle.rules.specs.Calls.{bit}
+use Rattle.std.specs.Int.{from_bool}
 use Rattle.rules.specs.declared.progress.State.TheVariants.{Running}
 use Rattle.schedule.specs.declared.record.Record.TheVariants.{Open}
 use Rattle.build.specs.Changes.{Changed}
@@ -9,6 +10,10 @@ use Rattle.build.specs.Rooms.{unended, unstarted}
 use Rattle.build.proofs.Altering.{after_start, read_at, changed_by}
 use Rattle.build.proofs.Fitting.{fits_set, started_room}
 use Rattle.build.proofs.work.Work.begin.Goals as goal
+
+bit_of : (k : Bool) (n : ℕ) → n ≡ from_bool k → n ≡ bit k
+bit_of true n e = e
+bit_of false n e = e
 
 pub note-requires : goal.note-requires
 note-requires c =
@@ -24,7 +29,7 @@ returns c =
     let waits = c.requires.waits in
     let place : 0 < length b.nodes = omega (arith, fits.whole, e.tree.counted.0) in
     let node = after_start _ (at b 0) c.accept.new.self c.accept.ensures.after (read_at b 0 _ place c.index_mut.ensures.value) waits in
-    let same : Open (c.args.tokens + 1) c.flag-keep.result c.count-nodes.result ≡ Open (c.args.tokens + 1) (bit e.keep) b.plan.nodes = λ i. Open (c.args.tokens + 1) (c.flag-keep.ensures i) (c.count-nodes.ensures.result i) in
+    let same : Open (c.args.tokens + 1) c.from-keep.result c.count-nodes.result ≡ Open (c.args.tokens + 1) (bit e.keep) b.plan.nodes = λ i. Open (c.args.tokens + 1) (bit_of e.keep _ c.from-keep.ensures i) (c.count-nodes.ensures.result i) in
     record {
       after = subst (λ r. Changed e c.args.buffer.now (in_state b 0 Running) r 0 c.note.new.self c.note.new.buffer) same
           (changed_by e (in_state b 0 Running) 0 c.note.ensures.after refl (ap (with_node b 0) node)

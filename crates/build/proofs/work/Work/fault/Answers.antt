@@ -1,16 +1,17 @@
-use Rattle.std.proofs.Common.{Ok, Err, sym, refl, ap, ◌∙◌, arith}
+use Rattle.std.proofs.Common.{Ok, Err, sym, refl, ap, ◌∙◌}
 use Rattle.rules.specs.Faults.{fault_by}
 use Rattle.rules.specs.Lists.{if_so}
 use Rattle.std.proofs.lemmas.Bool.{lt-ltb}
 use Rattle.build.specs.Filling.{fault_from}
 use Rattle.build.specs.Models.{model}
+use Rattle.build.proofs.Trees.{asked_inside}
 use Rattle.build.proofs.work.Work.fault.Goals as goal
 
 pub returns-in_default-tokens_at : goal.returns-in_default-tokens_at
 returns-in_default-tokens_at c =
     let b = model c.args.self.now in
     let n = c.args.n in
-    let inside = lt-ltb n b.plan.nodes (omega arith) in
+    let inside = lt-ltb n b.plan.nodes (asked_inside c.args.self.now.tree n _ _ c.in_ok-node.ensures) in
     record {
       after = (
         (

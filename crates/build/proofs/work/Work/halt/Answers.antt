@@ -13,7 +13,7 @@ use Rattle.rules.specs.Plans.{all_makes}
 pub note-requires : goal.note-requires
 note-requires g c =
     let b = model c.args.self.now in
-    let accepts = call_accepts b (g.P.Lender.ways.means c.args.pool.now).outs (length c.args.buffer.now) c.in_default.ensures in
+    let accepts = call_accepts b (g.P.Lender.ways.means c.args.pool.now).outs (length c.args.buffer.now) c.in_ok-check_call.ensures in
     record { room = omega (arith, c.requires.within, accepts.long, ap unended accepts.live) }
 
 pub stop_makes-requires : goal.stop_makes-requires
@@ -23,7 +23,7 @@ pub end_jobs-requires : goal.end_jobs-requires
 end_jobs-requires g c =
     let w = g.P.Lender.ways in
     let b = model c.args.self.now in
-    let accepts = call_accepts b (w.means c.args.pool.now).outs (length c.args.buffer.now) c.in_default.ensures in
+    let accepts = call_accepts b (w.means c.args.pool.now).outs (length c.args.buffer.now) c.in_ok-check_call.ensures in
     let noted = c.note.ensures.after in
     let stopped = c.stop_makes.ensures.after in
     let same : model c.note.new.self ≡ b = ap model noted.same in
@@ -38,11 +38,11 @@ pub returns : goal.returns
 returns g c =
     let w = g.P.Lender.ways in
     let b = model c.args.self.now in
-    let accepts = call_accepts b (w.means c.args.pool.now).outs (length c.args.buffer.now) c.in_default.ensures in
+    let accepts = call_accepts b (w.means c.args.pool.now).outs (length c.args.buffer.now) c.in_ok-check_call.ensures in
     let noted = c.note.ensures.after in
     let stopped = c.stop_makes.ensures.after in
     record {
-      after = called w halt _ _ _ c.in_default.ensures (ends_here w (halt_leads w c.args.self.now c.note.new.self c.stop_makes.new.self c.end_jobs.new.self noted stopped.build stopped.written (omega (arith, noted.wrote.room, c.note.auto.buffer)) c.end_jobs.ensures.after)) c.count_running.ensures;
+      after = called w halt _ _ _ c.in_ok-check_call.ensures (ends_here w (halt_leads w c.args.self.now c.note.new.self c.stop_makes.new.self c.end_jobs.new.self noted stopped.build stopped.written (omega (arith, noted.wrote.room, c.note.auto.buffer)) c.end_jobs.ensures.after)) c.count_running.ensures;
       unaltered = tt;
       fit = c.end_jobs.ensures.kept.fit;
     }

@@ -1,26 +1,18 @@
-use Rattle.std.proofs.Common.{◌-◌, eqb, sym, ◌∙◌, arith}
+use Rattle.std.proofs.Common.{rules, tests, ◌-◌, eqb, refl, ap, ◌∙◌}
 use Rattle.rules.specs.Builds.{running}
-use Rattle.rules.specs.Lists.{numbers}
+use Rattle.rules.specs.Lists.{any, numbers, those}
+use Rattle.std.proofs.lemmas.Iterator.{YieldsList-from_range}
+use Rattle.std.proofs.lemmas.Iterator.Search.{any_from_yields_List}
 use Rattle.build.specs.Models.{model}
 use Rattle.build.specs.Turns.{runs_under}
-use Rattle.build.proofs.Seeking.{any_those, any_found, any_on, any_none}
+use Rattle.build.proofs.Chains.{any_number}
 use Rattle.build.proofs.work.Work.has_running.Goals as goal
-
-pub loop-k-init : goal.loop-k-init
-loop-k-init c =
-    let b = model c.args.self.now in sym (any_those (running b) (λ k. eqb (b.plan.make k) c.args.m) (numbers 1 (b.plan.nodes - 1)))
-
-pub returns-then-runs_under : goal.returns-then-runs_under
-returns-then-runs_under c =
-    let b = model c.args.self.now in
-    sym (any_found (runs_under b c.args.m) b.plan.nodes c.loop-k.k (omega arith) (sym c.if-runs_under.ensures)) ∙ c.loop-k.invariant
-
-pub loop-k-preserved : goal.loop-k-preserved
-loop-k-preserved c =
-    let b = model c.args.self.now in
-    sym (any_on (runs_under b c.args.m) b.plan.nodes c.loop-k.k (omega arith) (sym c.if-runs_under.ensures)) ∙ c.loop-k.invariant
 
 pub returns : goal.returns
 returns c =
     let b = model c.args.self.now in
-    sym (any_none (runs_under b c.args.m) b.plan.nodes c.loop-k.k (omega arith)) ∙ c.loop-k.invariant
+    let m = c.args.m in
+    let n = c.count.result in
+    any_from_yields_List (runs_under b m) _ _ c.any.result c.any.ensures.ran (YieldsList-from_range 1 n (n - 1) (cc) refl) (λ x t q k. search (rules, tests))
+    ∙ any_number (running b) (λ k. eqb (b.plan.make k) m) 1 (n - 1)
+    ∙ ap (λ j. any (running b) (those (λ k. eqb (b.plan.make k) m) (numbers 1 (j - 1)))) c.count.ensures.result

@@ -8,10 +8,11 @@ use Rattle.build.specs.Models.{model}
 use Rattle.build.specs.Rooms.{room}
 use Rattle.build.proofs.Altering.{read_at, remade_by}
 use Rattle.build.proofs.Fitting.{fits_set, same_room}
+use Rattle.build.proofs.Upwards.{marked_err}
 use Rattle.build.proofs.work.Work.mark.Goals as goal
 
-pub returns-in-Failed : goal.returns-in-Failed
-returns-in-Failed c =
+pub returns-then-is_err : goal.returns-then-is_err
+returns-then-is_err c =
     let e = c.args.self.now in
     let b = model e in
     let m = c.args.m in
@@ -20,7 +21,7 @@ returns-in-Failed c =
     let place : m < length b.nodes = omega (arith, fits.whole, c.requires.node) in
     let x = marked e.keep n (at b m) in
     let node = c.mark.ensures.after ∙ ap (marked e.keep n) (read_at b m _ place c.index_mut.ensures.value) in
-    let how = ap (λ h. marked_build h m n b) (sym c.in-Failed.is) in
+    let how = sym (marked_err c.args.how m n b (sym c.if-is_err.ensures.value)) in
     record {
       after = remade_by e _ (marked_build c.args.how m n b) refl (ap (with_node b m) node ∙ how)
           (subst (λ d. Fits d (vec_capacity e.tokens.held) (memory e.losses) (rows_of e)) how (fits_set b m x b.tokens fits c.requires.node (omega arith) refl (omega arith)))

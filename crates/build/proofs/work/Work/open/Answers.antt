@@ -27,7 +27,7 @@ begin-requires g c =
     let keep = c.args.keep in
     let e = c.renew.new.self in
     let fresh = c.renew.ensures.after in
-    let long = open_accepts (plan_of (nodes_of t)) (total (g.P.Lender.ways.means c.args.pool.now).outs) (length c.args.buffer.now) c.in_default.ensures in
+    let long = open_accepts (plan_of (nodes_of t)) (total (g.P.Lender.ways.means c.args.pool.now).outs) (length c.args.buffer.now) c.in_ok-check_open.ensures in
     record {
       fit = subst (λ d. Fits d (vec_capacity e.tokens.held) (memory e.losses) (rows_of e)) (sym fresh.build) (fresh_fits t keep _ _ _ fresh.hands fresh.jobs fresh.notes fresh.none fresh.rows);
       waits = ap (λ (d : Build). (at d 0).state) fresh.build ∙ ap (λ (x : Progress). x.state) (fresh_waits (plan_of (nodes_of t)) keep 0);
@@ -40,7 +40,7 @@ settle-requires g c =
     let t = c.args.tree.now in
     let fresh = c.renew.ensures.after in
     let change = c.begin.ensures.after in
-    let long = open_accepts (plan_of (nodes_of t)) (total (g.P.Lender.ways.means c.args.pool.now).outs) (length c.args.buffer.now) c.in_default.ensures in
+    let long = open_accepts (plan_of (nodes_of t)) (total (g.P.Lender.ways.means c.args.pool.now).outs) (length c.args.buffer.now) c.in_ok-check_open.ensures in
     let none = ap (λ (d : Build). d.tokens) change.build ∙ ap (λ (d : Build). d.tokens) fresh.build in
     record {
       fit = change.fit;
@@ -66,7 +66,7 @@ returns g c =
     let opens = begun_leads w (Open (tokens + 1) (bit keep) t.nodes) (in_state (begun_on t keep) 0 Running) _ build wrote in
     let ends = leads_end w (leads_then w (settle answering) opens) c.settle.ensures.after in
     record {
-      after = (sym c.in_default.ensures, ran w (λ r. settle answering (noted (Open (tokens + 1) (bit keep) t.nodes) r)) _ _ ends, c.count_running.ensures);
+      after = (sym c.in_ok-check_open.ensures, ran w (λ r. settle answering (noted (Open (tokens + 1) (bit keep) t.nodes) r)) _ _ ends, c.count_running.ensures);
       fit = kept.fit;
       unaltered = tt;
     }

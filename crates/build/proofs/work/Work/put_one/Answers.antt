@@ -1,11 +1,12 @@
 use Rattle.std.proofs.Common.{◌≡◌, vec_capacity, sym, refl, ap, subst, arith}
+use Rattle.pool.specs.Ways.{Put}
 use Rattle.rules.specs.Builds.{Build, with_tokens}
 use Rattle.build.specs.Lost.{memory}
 use Rattle.build.specs.Fits.{Fit, Fits, Backed, rows_of}
 use Rattle.build.specs.Models.{model, in_hand}
 use Rattle.build.specs.Rooms.{room}
 use Rattle.build.proofs.Fitting.{fits_fewer}
-use Rattle.build.proofs.Returning.{back_fewer, back_out, backed_fewer, put_none_leads, put_one_leads}
+use Rattle.build.proofs.Returning.{back_fewer, back_out, backed_fewer, put_goes, put_none_leads, put_one_leads}
 use Rattle.build.proofs.work.Work.put_one.Goals as goal
 
 pub returns-in_default : goal.returns-in_default
@@ -26,9 +27,9 @@ returns-in_default g c =
       };
     }
 
-pub unreachable-requires : goal.unreachable-requires
-unreachable-requires g c =
-    omega (arith, back_out g.P.Lender.ways _ _ _ _ _ c.requires.backed c.in-Some.ensures.after, c.in-Err.ensures.1)
+pub unwrap-requires : goal.unwrap-requires
+unwrap-requires g c =
+    put_goes g.P.Lender.ways _ _ _ c.put.result c.put.ensures (omega (arith, back_out g.P.Lender.ways _ _ _ _ _ c.requires.backed c.in-Some.ensures.after))
 
 pub returns : goal.returns
 returns g c =
@@ -36,7 +37,7 @@ returns g c =
     let e = c.args.self.now in
     let b = model e in
     let found = c.in-Some.ensures.after in
-    let back = c.in_default-put.ensures in
+    let back = subst (λ r. Put w c.args.pool.now c.in-Some.byte r c.put.new.self) c.unwrap.ensures c.put.ensures in
     let left = in_hand c.give_back.new.self in
     let noted = c.note.ensures.after in
     let is : model c.note.new.self ≡ with_tokens b left = ap model noted.same in

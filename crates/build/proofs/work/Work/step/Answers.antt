@@ -11,7 +11,7 @@ use Rattle.build.proofs.work.Work.step.Goals as goal
 
 pub work_on-requires : goal.work_on-requires
 work_on-requires g c =
-    let accepts = job_accepts (model c.args.self.now) (g.P.Lender.ways.means c.args.pool.now).outs (length c.args.buffer.now) c.args.n c.in_default.ensures in
+    let accepts = job_accepts (model c.args.self.now) (g.P.Lender.ways.means c.args.pool.now).outs (length c.args.buffer.now) c.args.n c.in_ok-check_job.ensures in
     let inside = runs_inside (model c.args.self.now) c.args.n accepts.runs in
     record {
       fit = c.requires.fit;
@@ -23,7 +23,7 @@ work_on-requires g c =
 
 pub settle-requires : goal.settle-requires
 settle-requires g c =
-    let accepts = job_accepts (model c.args.self.now) (g.P.Lender.ways.means c.args.pool.now).outs (length c.args.buffer.now) c.args.n c.in_default.ensures in
+    let accepts = job_accepts (model c.args.self.now) (g.P.Lender.ways.means c.args.pool.now).outs (length c.args.buffer.now) c.args.n c.in_ok-check_job.ensures in
     let kept = c.work_on.ensures.kept in
     record { fit = kept.fit; backed = kept.backed; room = omega (arith, kept.spent, c.requires.within, accepts.call.long, c.work_on.auto.buffer) }
 
@@ -31,7 +31,7 @@ pub returns : goal.returns
 returns g c =
     let w = g.P.Lender.ways in
     record {
-      after = called w (step c.args.n) _ _ _ c.in_default.ensures (leads_end w (leads_then w (settle answering) c.work_on.ensures.after) c.settle.ensures.after) c.count_running.ensures;
+      after = called w (step c.args.n) _ _ _ c.in_ok-check_job.ensures (leads_end w (leads_then w (settle answering) c.work_on.ensures.after) c.settle.ensures.after) c.count_running.ensures;
       unaltered = tt;
       still = still_kept (kept_both (reach c.args.self.now) (λ h. h) c.work_on.ensures.kept c.settle.ensures.kept);
     }
