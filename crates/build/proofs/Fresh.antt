@@ -1,22 +1,18 @@
--- A build that has not begun: it fits its memory, and its room. Assumes nothing.
-use Rattle.std.proofs.Common.{◌≡◌, ℕ, zero, suc, ◌+◌, ◌-◌, ◌*◌, ◌<◌, ◌≤◌, Bool, true, false, cond, ◌&&◌, eqb, ltb, leb, List, [], ◌∷◌, ◌++◌, length, get_or, take, replicate, Some, None, Option, sym, refl, ap, ◌∙◌, arith}
-use lib.ListN.{length-replicate}
+-- A build that has not begun, and its room. Assumes nothing.
+use Rattle.std.proofs.Common.{◌≡◌, ℕ, zero, suc, ◌+◌, ◌-◌, ◌*◌, ◌≤◌, Bool, true, false, cond, ltb, List, [], ◌∷◌, ◌++◌, length, get_or, take, replicate, Some, None, Option, refl, ap, ◌∙◌, arith}
 use Rattle.std.proofs.lemmas.List.{take_all}
 use Rattle.pool.specs.Meaning.{sum_below, total as all_bytes}
 use Rattle.rules.specs.Builds.{unbegun, at, begun_on}
 use Rattle.rules.specs.Plans.{Plan, plan_of, needed}
 use Rattle.rules.specs.Refusing.{open_refusal}
 use Rattle.rules.specs.declared.progress.Progress.{Progress}
-use Rattle.std.proofs.lemmas.Bool.{and_parts, false≢true, leb-true, ltb-false}
-use Rattle.tree.specs.Kept.{steps_fit}
+use Rattle.std.proofs.lemmas.Bool.{false≢true, ltb-false}
 use Rattle.tree.specs.Nodes.{makes, total}
 use Rattle.tree.specs.Nodes as nodes
 use Rattle.tree.specs.Questions.{nodes_of, count_of}
 use Rattle.tree.specs.declared.node.Node.{Node}
 use Rattle.tree.specs.declared.tree.Tree.{Tree}
-use Rattle.build.specs.Fits.{Fits}
-use Rattle.build.specs.Lost.{Memory}
-use Rattle.build.specs.Rooms.{sum_from, unstarted, unended, bytes_left, room}
+use Rattle.build.specs.Rooms.{sum_from, unstarted, unended, to_start, to_end, bytes_left, room}
 
 fresh_at : (k n : ℕ) → get_or (replicate k unbegun) n unbegun ≡ unbegun
 fresh_at zero n = refl
@@ -41,30 +37,13 @@ fresh_sum steps k (x ∷ ns) same =
     let rest = fresh_sum steps (k + 1) ns (λ i. ap steps (omega arith) ∙ same (suc i)) in
     omega arith
 
-job_steps : (x : Node) → steps_fit x ≡ true → makes x.kind ≡ false → 0 < x.steps
-job_steps x fit job =
-    let parts = and_parts (leb 1 x.steps) (leb x.steps 999) (sym (ap (λ t. cond t (eqb x.steps 0) (leb 1 x.steps && leb x.steps 999)) job) ∙ fit) in
-    omega (arith, leb-true 1 x.steps parts.0)
-
 module _ (t : Tree) (keep : Bool) where
-  pub fresh_fits : (hands : ℕ) (notes : Memory) (rows : ℕ) → 200 ≤ hands → 200 ≤ notes.jobs → 40000 ≤ notes.most → notes.used ≡ 0 → 200 ≤ rows → Fits (begun_on (plan_of (nodes_of t)) keep) hands notes rows
-  fresh_fits hands notes rows enough ample spare none wide =
-      let n = count_of t in
-      record {
-        whole = length-replicate n unbegun;
-        small = t.counted.1;
-        steps = λ k other within job u.
-            let none = ap (λ (x : Progress). x.done) (fresh_at n k) in
-            let some = job_steps (nodes.at (nodes_of t) k) (t.sized k within) job in
-            omega arith;
-        few = omega (arith, ones (λ _ x. unstarted x.state) (λ k. refl) 0 n);
-        room = enough;
-        ample = ample;
-        spare = spare;
-        wide = wide;
-        listed = let small = t.counted.1 in omega (arith, ones (λ _ x. unended x.state) (λ k. refl) 0 n);
-        noted = let small = t.counted.1 in omega (arith, ones (λ _ x. unended x.state) (λ k. refl) 0 n);
-      }
+  -- as many nodes are still to start, and to end, as there are
+  pub fresh_starts : to_start (begun_on (plan_of (nodes_of t)) keep).nodes ≡ count_of t
+  fresh_starts = ones (λ _ x. unstarted x.state) (λ k. refl) 0 (count_of t)
+
+  pub fresh_ends : to_end (begun_on (plan_of (nodes_of t)) keep).nodes ≡ count_of t
+  fresh_ends = ones (λ _ x. unended x.state) (λ k. refl) 0 (count_of t)
 
   -- 5 bytes are more than it needs
   pub fresh_room : room (begun_on (plan_of (nodes_of t)) keep) + 5 ≡ needed (plan_of (nodes_of t))

@@ -3,7 +3,7 @@ use Rattle.std.proofs.Common.{◌≡◌, ℕ, zero, suc, ◌+◌, ◌-◌, ◌<�
 use native.Mathlib.Nat.{sub-zero}
 use Rattle.law.proofs.Bounds.{child_ended, top_ended}
 use Rattle.law.proofs.Moves.{after_child}
-use Rattle.law.proofs.Views.{turned_here, turned_there}
+use Rattle.law.proofs.Views.{turned_there}
 use Rattle.law.specs.Answers.{Answers, answering}
 use Rattle.law.specs.Sound.{state_of}
 use Rattle.rules.specs.Builds.{Build, unbegun, at, is_running, running, running_jobs, with_node}
@@ -26,11 +26,12 @@ use Rattle.std.proofs.lemmas.Bool.{and_parts, both_ways, cases_Bool, not-true, e
 use Rattle.schedule.proofs.Buffers.{wrote_none}
 use Rattle.schedule.specs.Buffers.{Wrote}
 use Rattle.schedule.specs.declared.record.Record.TheVariants.{Halt}
+use Rattle.build.proofs.Fitting.{fits}
 use Rattle.build.proofs.Altering.{kept_both, kept_same}
 use Rattle.build.proofs.Leading.{leads_none, leads_both, leads_then, leads_as}
 use Rattle.build.proofs.Steps.{noted_leads}
 use Rattle.build.specs.Changes.{Noted, Remade, here, reach}
-use Rattle.build.specs.Fits.{Fit, Backed}
+use Rattle.build.specs.Hands.{Backed}
 use Rattle.build.specs.Leads.{Point, on, Leads}
 use Rattle.build.specs.Models.{model, in_hand}
 use Rattle.build.specs.Turning.{Kept}
@@ -74,21 +75,6 @@ module _ {P : Type 0} (store : Store P) (t : Plan) (ord : Ordered t) where
       (λ _. others_still fuel (make_end (at back.build m)) m back (c.plan ∙ plan) (c.turn.long ∙ whole) (subst (λ k. k < t.nodes) same (omega (arith, place.0))) (make_ended (at back.build m)) j job (λ e. both_ways _ job (ap (is_make t) (e ∙ sym same) ∙ place.1)) ∙ here)
       (λ _. here))
 
-  pub itself_ended : (how : State) (n : ℕ) (r : Run P) → r.build.plan ≡ t → length r.build.nodes ≡ t.nodes → n < t.nodes → is_ended how ≡ true → is_make t n ≡ false → state_of (end_node store how n r).build.nodes n ≡ how
-  itself_ended how n r plan whole within ended job =
-      if_holds (λ (q : Run P). state_of q.build.nodes n ≡ how) (eqb n 0) _ _
-      (λ top. absurd (both_ways _ job (ap (is_make t) (eqb-true n 0 top) ∙ ord.top)))
-      (λ nested.
-      let pos : 0 < n = omega (arith, eqb-false n 0 nested) in
-      let m = r.build.plan.make n in
-      let back = after_child store how n r in
-      let c = child_ended store how n r ended (omega (arith, within, whole)) in
-      let place = ord.placed n pos within in
-      let same : t.make n ≡ m = ap (λ q. q.make n) (sym plan) in
-      if_holds (λ (q : Run P). state_of q.build.nodes n ≡ how) (is_over back.build m) _ _
-      (λ _. others_still n (make_end (at back.build m)) m back (c.plan ∙ plan) (c.turn.long ∙ whole) (subst (λ k. k < t.nodes) same (omega (arith, place.0))) (make_ended (at back.build m)) n job (λ e. both_ways _ job (ap (is_make t) (e ∙ sym same) ∙ place.1)) ∙ turned_here c.turn)
-      (λ _. turned_here c.turn))
-
 -- the same tests, the same list
 those_same : (p q : ℕ → Bool) (xs : List ℕ) → ((k : ℕ) → q k ≡ p k) → those q xs ≡ those p xs
 those_same p q [] same = refl
@@ -105,10 +91,6 @@ stop_jobs b =
 pub stop_tokens : (ms : List ℕ) (b : Build) → (stop_all ms b).tokens ≡ b.tokens
 stop_tokens [] b = refl
 stop_tokens (m ∷ ms) b = stop_tokens ms (with_node b m (stop (at b m)))
-
-pub stop_keep : (ms : List ℕ) (b : Build) → (stop_all ms b).keep ≡ b.keep
-stop_keep [] b = refl
-stop_keep (m ∷ ms) b = stop_keep ms (with_node b m (stop (at b m)))
 
 module _ {P : Type 0} (w : Ways P) where
   -- a change of the build alone
@@ -149,12 +131,11 @@ module _ {P : Type 0} (w : Ways P) where
 pub record Stopping (e : Work) (m : ℕ) (now : Work) : Type 0 where
   pub left : stop_all (those (is_make (model e).plan) (numbers m ((model e).plan.nodes - m))) (model now) ≡ stop_all (all_makes (model e).plan) (model e)
   pub plan : (model now).plan ≡ (model e).plan
-  pub fit : Fit now
   pub written : now.written ≡ e.written
   pub spent : reach now ≤ reach e
 
-pub stopping_none : (e : Work) → Fit e → Stopping e 0 e
-stopping_none e fit = record { left = ap (λ n. stop_all (those (is_make (model e).plan) (numbers 0 n)) (model e)) (sub-zero (model e).plan.nodes); plan = refl; fit = fit; written = refl; spent = omega arith }
+pub stopping_none : (e : Work) → Stopping e 0 e
+stopping_none e = record { left = ap (λ n. stop_all (those (is_make (model e).plan) (numbers 0 n)) (model e)) (sub-zero (model e).plan.nodes); plan = refl; written = refl; spent = omega arith }
 
 module _ {e now : Work} {m : ℕ} (s : Stopping e m now) (less : m < (model e).plan.nodes) where
   pub stopping_one : (next : Work) → true ≡ is_make (model now).plan m → Remade now (with_node (model now) m (stop (at (model now) m))) next → Stopping e (m + 1) next
@@ -164,7 +145,6 @@ module _ {e now : Work} {m : ℕ} (s : Stopping e m now) (less : m < (model e).p
       record {
         left = ap (stop_all (those (is_make t) (numbers (m + 1) (t.nodes - (m + 1))))) r.build ∙ sym (ap (λ l. stop_all l (model now)) turn) ∙ s.left;
         plan = ap (λ b. b.plan) r.build ∙ s.plan;
-        fit = r.fit;
         written = r.written ∙ s.written;
         spent = omega (arith, r.spent, s.spent);
       }
@@ -173,13 +153,12 @@ module _ {e now : Work} {m : ℕ} (s : Stopping e m now) (less : m < (model e).p
   stopping_on job =
       let t = (model e).plan in
       let turn = those_turn (is_make t) t.nodes m false less (ap (λ q. is_make q m) (sym s.plan) ∙ sym job) in
-      record { left = sym (ap (λ l. stop_all l (model now)) turn) ∙ s.left; plan = s.plan; fit = s.fit; written = s.written; spent = s.spent }
+      record { left = sym (ap (λ l. stop_all l (model now)) turn) ∙ s.left; plan = s.plan; written = s.written; spent = s.spent }
 
 pub stopping_all : {e now : Work} {m : ℕ} → Stopping e m now → (model e).plan.nodes ≤ m → Remade e (stop_all (all_makes (model e).plan) (model e)) now
 stopping_all {e} {now} {m} s past = record {
   build = sym (ap (λ l. stop_all l (model now)) (those_over (is_make (model e).plan) (model e).plan.nodes m past)) ∙ s.left;
   written = s.written;
-  fit = s.fit;
   spent = s.spent;
 }
 
@@ -190,8 +169,8 @@ module _ {P : Type 0} (w : Ways P) where
     pub kept : Kept w e (reach e) now q
     pub runs : (j : ℕ) → n ≤ j → runs_as_job (model now) j ≡ runs_as_job (model e) j
 
-  pub ending_none : (e : Work) (p : P) (old : List ℕ) → Fit e → Backed w p (in_hand e.tokens) → e.written ≤ length old → EndingJobs e p old 0 e p old
-  ending_none e p old fit backed inside = record { left = subst (λ n. Leads w (end_all answering (running_jobs (model e))) (end_all answering (those (runs_as_job (model e)) (numbers 0 n))) (here e p old) (here e p old)) (sym (sub-zero (model e).plan.nodes)) (leads_none w _ (here e p old) inside); kept = kept_same w p e fit backed; runs = λ j from. refl }
+  pub ending_none : (e : Work) (p : P) (old : List ℕ) → Backed w p (in_hand e.tokens) → e.written ≤ length old → EndingJobs e p old 0 e p old
+  ending_none e p old backed inside = record { left = subst (λ n. Leads w (end_all answering (running_jobs (model e))) (end_all answering (those (runs_as_job (model e)) (numbers 0 n))) (here e p old) (here e p old)) (sym (sub-zero (model e).plan.nodes)) (leads_none w _ (here e p old) inside); kept = kept_same w p e backed; runs = λ j from. refl }
 
   module _ {e : Work} {p : P} {old : List ℕ} {n : ℕ} {now : Work} {q : P} {new : List ℕ} (s : EndingJobs e p old n now q new) (less : n < (model e).plan.nodes) where
     pub ending_one : (next : Work) (q' : P) (new' : List ℕ) → true ≡ runs_as_job (model now) n → Leads w (end_node answering (Failed causes.Halt) n) (λ r. r) (here now q new) (here next q' new') → Kept w now (reach now - 2) next q' → EndingJobs e p old (n + 1) next q' new'
@@ -205,7 +184,7 @@ module _ {P : Type 0} (w : Ways P) where
         record {
           left = leads_both w (subst (λ l. Leads w (end_all answering (running_jobs b)) (end_all answering l) (here e p old) (here now q new)) turn s.left) (leads_then w (end_all answering rest) ended);
           kept = kept_both (reach e) (λ h. omega arith) s.kept kept;
-          runs = λ j from. runs_still w n ended kept.plan (trees_ordered now.tree) s.kept.fit.whole inside (not-true _ parts.1) j (λ is. omega arith) ∙ s.runs j (omega arith);
+          runs = λ j from. runs_still w n ended kept.plan (trees_ordered now.tree) (fits now).whole inside (not-true _ parts.1) j (λ is. omega arith) ∙ s.runs j (omega arith);
         }
 
     pub ending_on : false ≡ runs_as_job (model now) n → EndingJobs e p old (n + 1) now q new
@@ -229,7 +208,7 @@ module _ {P : Type 0} (w : Ways P) where
       let first : Leads w (noting Halt) (λ r. r) (here e p old) (here e₁ p mid) = noted_leads w Halt noted in
       let second : Leads w (on_build F) (λ r. r) (here e₁ p mid) (here e₂ p mid) = remade_leads w F e₁ e₂ is same inside in
       let L = running_jobs (model e₂) in
-      let build-same : model e₁ ≡ model e = ap model noted.same in
+      let build-same : model e₁ ≡ model e = noted.build in
       let jobs : L ≡ running_jobs (model e) = ap running_jobs is ∙ stop_jobs (model e₁) ∙ ap running_jobs build-same in
       let both = leads_both w (leads_then w (on_build F) first) second in
       let all = leads_both w (leads_then w (end_all answering L) both) ended in

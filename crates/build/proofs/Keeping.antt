@@ -1,15 +1,12 @@
 -- What every build keeps, as facts and as one statement. Assumes nothing.
-use Rattle.std.proofs.Common.{◌≡◌, ℕ, ◌<◌, true, false, refl, ap, inl, arith}
-use Rattle.build.specs.Fits.{Fit}
-use Rattle.build.specs.Keeps.{Housed, Numbered, Lives, Paid, Works, is_good, AllGood, Blamed, GoesOn, AllDone, Idles, Untouched, Unstopped, StoppedWhy, Roomy}
-use Rattle.build.specs.Models.{model, status}
-use Rattle.build.specs.Rooms.{unended}
+use Rattle.std.proofs.Common.{◌≡◌, true, refl, ap, inl, arith}
+use Rattle.build.proofs.Fitting.{fits}
+use Rattle.build.specs.Keeps.{Lives, Paid, Works, is_good, AllGood, Blamed, GoesOn, AllDone, Idles, Untouched, Unstopped, StoppedWhy, Roomy}
+use Rattle.build.specs.Models.{status}
 use Rattle.build.specs.declared.state.Build.{Build as BuildOf}
 use Rattle.build.specs.declared.work.Work.{Work}
 use Rattle.law.proofs.Planning.{trees_planned}
-use Rattle.law.specs.Sound.{entry, state_of, Sound}
-use Rattle.rules.specs.Builds.{is_waiting, is_running}
-use Rattle.rules.specs.Plans.{is_make}
+use Rattle.law.specs.Sound.{Sound}
 use Rattle.rules.specs.declared.progress.State.{State}
 use Rattle.rules.specs.declared.progress.State.TheVariants.{Waiting, Running, Good, Failed}
 use Rattle.std.proofs.lemmas.Bool.{false≢true}
@@ -23,8 +20,6 @@ good_is (Failed c) e = absurd (false≢true e)
 -- all of it
 abbrev pub Kept : Work → Type 0
 Kept e = record {
-  housed : Housed e;
-  numbered : Numbered e;
   lives : Lives e;
   paid : Paid e;
   works : Works e;
@@ -39,10 +34,8 @@ Kept e = record {
   roomy : Roomy e;
 }
 
-pub kept_by : (e : Work) → Fit e → Sound (status e) → Kept e
-kept_by e f s = record {
-  housed = (f.room, f.ample, f.spare, f.wide);
-  numbered = (f.whole, f.few, f.listed, f.noted);
+pub kept_by : (e : Work) → Sound (status e) → Kept e
+kept_by e s = record {
   lives = s.shape.lives;
   paid = s.shape.paid;
   works = s.busy;
@@ -61,7 +54,7 @@ pub sound_by : (b : BuildOf) → Sound (status b.work)
 sound_by b = record {
   shape = record {
     planned = trees_planned b.work.tree;
-    whole = b.numbered.0;
+    whole = (fits b.work).whole;
     lives = b.lives;
     paid = b.paid;
     good = λ n below g. good_is _ (b.good n below (ap is_good g));
@@ -76,28 +69,4 @@ sound_by b = record {
   };
   busy = b.works;
   room = b.roomy;
-}
-
--- a job that has not ended has a step left
-unended_left : (e : Work) → Sound (status e) → (n : ℕ) → n < (model e).plan.nodes → is_make (model e).plan n ≡ false → (s : State) → state_of (model e).nodes n ≡ s → unended s ≡ 1 → (entry (model e).nodes n).done < (model e).plan.steps n
-unended_left e h n within job Waiting is u =
-    let none = h.shape.fresh n (ap is_waiting is) in
-    let some = h.shape.planned.sized n within job in
-    omega arith
-unended_left e h n within job Running is u = h.shape.going n within job (λ same. omega arith) (ap is_running is)
-unended_left e h n within job Good is u = absurd (omega arith)
-unended_left e h n within job (Failed c) is u = absurd (omega arith)
-
-pub fit_by : (b : BuildOf) → Fit b.work
-fit_by b = record {
-  whole = b.numbered.0;
-  small = b.work.tree.counted.1;
-  steps = λ n other within job u. unended_left b.work (sound_by b) n within job _ refl u;
-  few = b.numbered.1;
-  room = b.housed.0;
-  ample = b.housed.1;
-  spare = b.housed.2;
-  wide = b.housed.3;
-  listed = b.numbered.2;
-  noted = b.numbered.3;
 }

@@ -14,8 +14,8 @@ use Rattle.schedule.specs.Records.{bytes}
 use Rattle.schedule.specs.declared.record.Record.TheVariants.{PutBack}
 use Rattle.schedule.proofs.Buffers.{wrote_none}
 use Rattle.std.proofs.lemmas.Bool.Decides.{nat_tests}
-use Rattle.build.specs.Fits.{Backed}
-use Rattle.build.specs.Hands.{in_hands}
+use Rattle.build.specs.Hands.{Backed}
+use Rattle.build.specs.Hands.{in_hands, GaveBack}
 use Rattle.build.specs.Leads.{on, Leads}
 use Rattle.build.proofs.Handing.{in_hands_more}
 use Rattle.build.proofs.Settles.{point}
@@ -46,6 +46,11 @@ back_fewer m (h ∷ hs) byte hs' e = either (eqb h.by m) e (λ b r is. back_fewe
         let first : Fewer (h ∷ hs) h.byte hs = record { counted = λ k. in_hands_more k h hs; long = omega arith } in
         subst (λ (x : ℕ × List Held). Fewer (h ∷ hs) x.0 x.1) got first
     either false e less = fewer_kept h hs (goes_back m hs) byte hs' less e
+
+-- so no more are in hand
+pub gave_fewer : (m : ℕ) (hs : List Held) (r : Option ℕ) (hs' : List Held) → GaveBack m hs r hs' → length hs' ≤ length hs
+gave_fewer m hs None hs' none = omega (arith, ap length none.1)
+gave_fewer m hs (Some byte) hs' gave = omega (arith, (back_fewer m hs byte hs' gave).long)
 
 -- what goes back is out, so that the pool takes it
 pub back_out : {P : Type 0} (w : Ways P) (p : P) (m : ℕ) (hs : List Held) (byte : ℕ) (hs' : List Held) → Backed w p hs → goes_back m hs ≡ Some (byte, hs') → 0 < (w.means p).outs byte

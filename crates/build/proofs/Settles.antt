@@ -19,7 +19,7 @@ use Rattle.schedule.specs.declared.record.Record.TheVariants.{StartInSlot, Start
 use Rattle.schedule.proofs.Buffers.{wrote_none}
 use Rattle.std.proofs.lemmas.Bool.{false≢true}
 use Rattle.build.specs.Changes.{MayStart}
-use Rattle.build.specs.Fits.{Backed}
+use Rattle.build.specs.Hands.{Backed}
 use Rattle.build.specs.Leads.{Point, on, Leads, Ends}
 use Rattle.build.specs.Rooms.{to_start, unstarted}
 use Rattle.build.proofs.Handing.{in_hands_more}

@@ -15,7 +15,6 @@ use Rattle.schedule.specs.declared.record.Record.TheVariants.{Step}
 use Rattle.std.proofs.lemmas.Bool.{eq-eqb, ne_eqb}
 use Rattle.build.specs.Changes.{Noted, here}
 use Rattle.build.specs.Leads.{on, Leads}
-use Rattle.build.specs.Models.{model}
 use Rattle.build.specs.Working.{worked, stepped_build}
 use Rattle.build.specs.declared.work.Work.{Work}
 use Rattle.build.proofs.Leading.{leads_as}
@@ -27,7 +26,7 @@ noted_leads w {e} {e'} {p} {old} {new} x n = record {
   answers = [];
   asked = [];
   records = x ∷ [];
-  runs = λ coming ops rs. ap (λ d. on d coming ops (x ∷ rs)) (sym (ap model n.same));
+  runs = λ coming ops rs. ap (λ d. on d coming ops (x ∷ rs)) (sym n.build);
   pool = refl;
   wrote = subst (λ l. Wrote old e.written l new e'.written) (sym (append-nil (bytes x))) n.wrote;
 }

@@ -1,6 +1,5 @@
 -- What one step of the engine changes: the build, one record, and how much room is left.
 use Rattle.std.specs.Prelude.{◌≡◌, ℕ, ◌+◌, ◌<◌, ◌≤◌, List}
-use Rattle.build.specs.Fits.{Fit}
 use Rattle.build.specs.Models.{model, status}
 use Rattle.build.specs.Leads.{Point}
 use Rattle.build.specs.Rooms.{room}
@@ -20,13 +19,9 @@ here e p buffer = record { status = status e; pool = p; buffer = buffer }
 abbrev pub reach : Work → ℕ
 reach e = e.written + room (model e)
 
--- the same with so much written
-abbrev pub with_written : Work → ℕ → Work
-with_written e n = record { tree = e.tree; keep = e.keep; nodes = e.nodes; tokens = e.tokens; losses = e.losses; written = n }
-
 -- a record was written, and no more
 pub record Noted (e : Work) (old : List ℕ) (r : Record) (e' : Work) (new : List ℕ) : Type 0 where
-  pub same : e' ≡ with_written e e'.written
+  pub build : model e' ≡ model e
   pub wrote : Wrote old e.written (bytes r) new e'.written
 
 -- make and child are in the tree, and the child has not begun
@@ -39,12 +34,10 @@ pub record MayStart (b : Build) (s : Start) : Type 0 where
 pub record Changed (e : Work) (old : List ℕ) (b : Build) (r : Record) (spare : ℕ) (e' : Work) (new : List ℕ) : Type 0 where
   pub build : model e' ≡ b
   pub wrote : Wrote old e.written (bytes r) new e'.written
-  pub fit : Fit e'
   pub spent : reach e' + spare ≤ reach e
 
 -- the build is now b, and nothing was written
 pub record Remade (e : Work) (b : Build) (e' : Work) : Type 0 where
   pub build : model e' ≡ b
   pub written : e'.written ≡ e.written
-  pub fit : Fit e'
   pub spent : reach e' ≤ reach e

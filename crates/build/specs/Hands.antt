@@ -1,6 +1,7 @@
 -- The store of tokens in hand: how many there are of a byte, and which goes back.
-use Rattle.std.specs.Prelude.{◌≡◌, ℕ, ◌+◌, ◌<◌, Bool, List, ◌++◌, map, reverse, length, take, drop, Some, None, Option, nat_eq, nat_lt, slice_index_or}
+use Rattle.std.specs.Prelude.{◌≡◌, ℕ, ◌+◌, ◌<◌, ◌≤◌, Bool, List, ◌++◌, map, reverse, length, take, drop, Some, None, Option, nat_eq, nat_lt, slice_index_or}
 use Rattle.pool.specs.Meaning.{count}
+use Rattle.pool.specs.Ways.{Ways}
 use Rattle.rules.specs.Ending.{goes_back}
 use Rattle.rules.specs.Lists.{those}
 use Rattle.rules.specs.Builds.{Held}
@@ -28,3 +29,7 @@ LastOf m xs (Some i) =
 abbrev pub GaveBack : ℕ → List Held → Option ℕ → List Held → Type 0
 GaveBack m hs None hs' = (goes_back m hs ≡ None) × (hs' ≡ hs)
 GaveBack m hs (Some byte) hs' = goes_back m hs ≡ Some (byte, hs')
+
+-- of each byte at least as many are out of the pool as the makes hold
+abbrev pub Backed : {P : Type 0} → Ways P → P → List Held → Type 0
+Backed w p hs = (k : ℕ) → in_hands k hs ≤ (w.means p).outs k

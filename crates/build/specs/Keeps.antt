@@ -1,8 +1,6 @@
--- What every build keeps between two calls, fact by fact: it fits its memory, and it is sound.
-use Rattle.std.specs.Prelude.{◌≡◌, ℕ, ◌+◌, ◌-◌, ◌*◌, ◌<◌, ◌≤◌, Bool, true, false, length, vec_len, vec_capacity}
-use Rattle.build.specs.Fits.{rows_of}
+-- What every build keeps between two calls, fact by fact.
+use Rattle.std.specs.Prelude.{◌≡◌, ℕ, ◌+◌, ◌-◌, ◌<◌, ◌≤◌, Bool, true, false}
 use Rattle.build.specs.Models.{model}
-use Rattle.build.specs.Rooms.{to_start, to_end}
 use Rattle.build.specs.declared.work.Work.{Work}
 use Rattle.law.specs.Sound.{entry, state_of, is_failed, children_running, tokens_with, BelowTop, Busy, bytes_left}
 use Rattle.rules.specs.Builds.{is_waiting, is_running}
@@ -10,19 +8,6 @@ use Rattle.rules.specs.Lists.{is_some}
 use Rattle.rules.specs.Plans.{is_make, needed}
 use Rattle.rules.specs.declared.progress.State.{State}
 use Rattle.rules.specs.declared.progress.State.TheVariants.{Waiting, Running, Good, Failed}
-
--- there is memory for the tokens in hand, those noted and the nodes of every tree
-abbrev pub Housed : Work → Type 0
-Housed e =
-    (200 ≤ vec_capacity e.tokens.held) × (200 ≤ vec_capacity e.losses.jobs) × (40000 ≤ vec_capacity e.losses.bytes) × (200 ≤ rows_of e)
-
--- every node has its place; of tokens in hand and tokens noted there are only so many
-abbrev pub Numbered : Work → Type 0
-Numbered e =
-    (length (model e).nodes ≡ (model e).plan.nodes)
-    × (length (model e).tokens + to_start (model e).nodes ≤ (model e).plan.nodes)
-    × (length (model e).losses + to_end (model e).nodes ≤ vec_capacity e.losses.jobs)
-    × (vec_len e.losses.bytes + 200 * to_end (model e).nodes ≤ vec_capacity e.losses.bytes)
 
 -- the make of a running node is live
 abbrev pub Lives : Work → Type 0

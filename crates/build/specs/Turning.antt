@@ -4,7 +4,7 @@ use Rattle.law.specs.Answers.{answering}
 use Rattle.pool.specs.Ways.{Ways}
 use Rattle.rules.specs.Settling.{settle_by}
 use Rattle.build.specs.Changes.{reach}
-use Rattle.build.specs.Fits.{Fit, Backed}
+use Rattle.build.specs.Hands.{Backed}
 use Rattle.build.specs.Leads.{Point, Leads, Ends}
 use Rattle.build.specs.Models.{model, in_hand}
 use Rattle.build.specs.Rooms.{to_start}
@@ -17,18 +17,9 @@ Turned w x true y =
     × (to_start y.status.build.nodes + 1 ≡ to_start x.status.build.nodes)
 Turned w x false y = (turns : ℕ) → to_start x.status.build.nodes ≤ turns → Ends w (settle_by answering turns) x y
 
--- The build still fits its memory, the pool still backs its tokens, it is of the same tree, and the schedule may grow no
--- further than to this limit.
+-- The pool still backs the tokens, the build is of the same tree, and the schedule may grow no further than to this limit.
 pub record Kept {P : Type 0} (w : Ways P) (e : Work) (limit : ℕ) (e' : Work) (q : P) : Type 0 where
-  pub fit : Fit e'
   pub backed : Backed w q (in_hand e'.tokens)
-  pub plan : (model e').plan ≡ (model e).plan
-  pub keep : e'.keep ≡ e.keep
-  pub spent : reach e' ≤ limit
-
--- The build still fits its memory, it is of the same tree, and the schedule may grow no further than to this limit.
-pub record Still (e : Work) (limit : ℕ) (e' : Work) : Type 0 where
-  pub fit : Fit e'
   pub plan : (model e').plan ≡ (model e).plan
   pub keep : e'.keep ≡ e.keep
   pub spent : reach e' ≤ limit

@@ -9,7 +9,6 @@ use Rattle.schedule.specs.Buffers.{Wrote}
 use Rattle.schedule.specs.Records.{bytes}
 use Rattle.schedule.specs.declared.record.Record.TheVariants.{Step}
 use Rattle.build.specs.Changes.{reach}
-use Rattle.build.specs.Fits.{FitBut}
 use Rattle.build.specs.Models.{model}
 use Rattle.build.specs.declared.work.Work.{Work}
 
@@ -27,6 +26,5 @@ worked store n r =
 pub record Stepped (n : ℕ) (e : Work) (old : List ℕ) (e' : Work) (new : List ℕ) : Type 0 where
   pub build : model e' ≡ stepped_build n (model e)
   pub wrote : Wrote old e.written (bytes (Step n)) new e'.written
-  pub fit : FitBut n e'
   pub done : (at (model e') n).done ≤ (model e').plan.steps n
   pub spent : reach e' ≤ reach e

@@ -1,9 +1,8 @@
 // The calls of a build at work: refused as the rules say, or carried out.
 ghost use Rattle.std.specs.Prelude.{◌≡◌, ◌≤◌, OnErr};
 ghost use Rattle.build.specs.Changes.{reach};
-ghost use Rattle.build.specs.Fits.{Fit};
+ghost use Rattle.build.specs.Keeps.{GoesOn};
 ghost use Rattle.build.specs.Models.{model, status};
-ghost use Rattle.build.specs.Turning.{Still};
 ghost use Rattle.law.specs.Calls.{Called, step as step_of_lem, kill as kill_of, poll as only_poll};
 ghost use Rattle.rules.specs.Plans.{needed};
 
@@ -19,11 +18,10 @@ impl Work {
         pool: &mut P,
         buffer: &mut [u8],
     ) -> Result<u32, Refusal>
-        requires fit { Fit self.old }
+        requires going { GoesOn self.old }
         requires within { reach self.old ≤ needed (model self.old).plan }
         ensures after { Called P.Lender.ways (step_of_lem n) (status self.old) pool.old buffer.old result (status self.new) pool.new buffer.new }
         ensures unaltered { OnErr result (self.new ≡ self.old) }
-        ensures still { Still self.old (reach self.old) self.new }
     {
         self.check_job(pool, buffer.len(), n)?;
         self.work_on(n, pool, buffer);
@@ -38,11 +36,9 @@ impl Work {
         pool: &mut P,
         buffer: &mut [u8],
     ) -> Result<u32, Refusal>
-        requires fit { Fit self.old }
         requires within { reach self.old ≤ needed (model self.old).plan }
         ensures after { Called P.Lender.ways (kill_of n) (status self.old) pool.old buffer.old result (status self.new) pool.new buffer.new }
         ensures unaltered { OnErr result (self.new ≡ self.old) }
-        ensures still { Still self.old (reach self.old) self.new }
     {
         self.check_job(pool, buffer.len(), n)?;
         self.kill_one(n, pool, buffer);
@@ -56,11 +52,9 @@ impl Work {
         pool: &mut P,
         buffer: &mut [u8],
     ) -> Result<u32, Refusal>
-        requires fit { Fit self.old }
         requires within { reach self.old ≤ needed (model self.old).plan }
         ensures after { Called P.Lender.ways only_poll (status self.old) pool.old buffer.old result (status self.new) pool.new buffer.new }
         ensures unaltered { OnErr result (self.new ≡ self.old) }
-        ensures still { Still self.old (reach self.old) self.new }
     {
         self.check_call(pool, buffer.len())?;
         self.settle(pool, buffer);

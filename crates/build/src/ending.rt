@@ -1,10 +1,10 @@
 // What follows when a node ends.
-ghost use Rattle.std.specs.Prelude.{◌≡◌, ◌+◌, ◌-◌, ◌<◌, ◌≤◌, length, if◌then◌else◌, vec_len, vec_capacity};
+ghost use Rattle.std.specs.Prelude.{◌≡◌, ◌+◌, ◌-◌, ◌<◌, ◌≤◌, length, if◌then◌else◌, vec_len};
 ghost use Rattle.build.specs.Changes.{Changed, Noted, Remade, here, reach};
 ghost use Rattle.build.specs.Ended.{ended_build, ended_record, marked_build, noted_at};
-ghost use Rattle.build.specs.Fits.{Fit, FitBut, Backed};
 ghost use Rattle.build.specs.Leads.{Leads};
-ghost use Rattle.build.specs.Lost.{noted_losses, Grown};
+ghost use Rattle.build.specs.Hands.{Backed};
+ghost use Rattle.build.specs.Lost.{noted_losses};
 ghost use Rattle.build.specs.Models.{model, in_hand};
 ghost use Rattle.build.specs.Turning.{Kept};
 ghost use Rattle.law.specs.Answers.{answering};
@@ -43,10 +43,10 @@ fn end_record(n: u32, how: Result<(), Cause>) -> Record
 
 // Notes, when node n ends so, the tokens of its make: for a job that fails.
 fn note_loss(tree: &Tree, tokens: &Tokens, n: u32, how: Result<(), Cause>, losses: &mut Losses)
-    requires listed { vec_len losses.old.jobs < vec_capacity losses.old.jobs }
-    requires room { vec_len losses.old.bytes + vec_len tokens.now.held ≤ vec_capacity losses.old.bytes }
+    requires listed { vec_len losses.old.jobs < 200 }
+    requires room { vec_len losses.old.bytes + vec_len tokens.now.held ≤ 40000 }
     ensures after { noted_losses losses.new ≡ noted_at how n (plan_of (nodes_of tree.now)) (in_hand tokens.now) (noted_losses losses.old) }
-    ensures memory { Grown losses.old (vec_len tokens.now.held) losses.new }
+    ensures used { vec_len losses.new.bytes ≤ vec_len losses.old.bytes + vec_len tokens.now.held }
 {
     if how.is_err() && !is_make(tree, n) {
         losses.note(tokens, make_of(tree, n), n);
@@ -56,20 +56,18 @@ fn note_loss(tree: &Tree, tokens: &Tokens, n: u32, how: Result<(), Cause>, losse
 impl Work {
     // Node n ends so: for a job that fails, the tokens of its make are noted.
     fn end_one(&mut self, n: u32, how: Result<(), Cause>, buffer: &mut [u8])
-        requires fit { FitBut n self.old }
         requires node { n < (model self.old).plan.nodes }
         requires runs { (at (model self.old) n).state ≡ Running }
         requires room { reach self.old ≤ length buffer.old + 2 }
         ensures after { Changed self.old buffer.old (ended_build how n (model self.old)) (ended_record how n) 5 self.new buffer.new }
     {
-        note_loss(&self.tree, &self.tokens, n, how, &mut self.losses);
         self.nodes[n as usize].accept(Event::End(how));
+        note_loss(&self.tree, &self.tokens, n, how, &mut self.losses);
         self.note(end_record(n, how), buffer);
     }
 
     // The make puts back the token that it took last, if it holds any.
     fn put_one<P: Lender>(&mut self, m: u32, pool: &mut P, buffer: &mut [u8])
-        requires fit { Fit self.old }
         requires backed { Backed P.Lender.ways pool.old (in_hand self.old.tokens) }
         requires byte { m < 256 }
         requires room { reach self.old + 3 ≤ length buffer.old }
@@ -91,7 +89,6 @@ impl Work {
 
     // The make of a node that ended so is marked, if it failed.
     fn mark(&mut self, how: Result<(), Cause>, m: u32, n: u32)
-        requires fit { Fit self.old }
         requires node { m < (model self.old).plan.nodes }
         ensures after { Remade self.old (marked_build how m n (model self.old)) self.new }
     {
@@ -133,7 +130,6 @@ impl Work {
         pool: &mut P,
         buffer: &mut [u8],
     )
-        requires fit { FitBut n self.old }
         requires backed { Backed P.Lender.ways pool.old (in_hand self.old.tokens) }
         requires nodes { (n < (model self.old).plan.nodes) × (m < (model self.old).plan.nodes) }
         requires runs { (at (model self.old) n).state ≡ Running }
@@ -154,7 +150,6 @@ impl Work {
         pool: &mut P,
         buffer: &mut [u8],
     )
-        requires fit { FitBut n self.old }
         requires backed { Backed P.Lender.ways pool.old (in_hand self.old.tokens) }
         requires node { n < (model self.old).plan.nodes }
         requires runs { (at (model self.old) n).state ≡ Running }

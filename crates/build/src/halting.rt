@@ -1,11 +1,11 @@
 // A halt: no make starts anything more, and every running job ends as failed.
 ghost use Rattle.std.specs.Prelude.{◌≡◌, ◌+◌, ◌<◌, ◌≤◌, length, OnErr};
 ghost use Rattle.build.specs.Changes.{Remade, here, reach};
-ghost use Rattle.build.specs.Fits.{Fit, Backed};
+ghost use Rattle.build.specs.Hands.{Backed};
 ghost use Rattle.build.specs.Leads.{Leads};
 ghost use Rattle.build.specs.Models.{model, in_hand, status};
 ghost use Rattle.build.specs.Rooms.{unended};
-ghost use Rattle.build.specs.Turning.{Kept, Still};
+ghost use Rattle.build.specs.Turning.{Kept};
 ghost use Rattle.law.specs.Answers.{answering};
 ghost use Rattle.law.specs.Calls.{Called, halt as only_halt};
 ghost use Rattle.rules.specs.Builds.{at, running_jobs, with_node};
@@ -22,7 +22,6 @@ use schedule::record::Record;
 impl Work {
     // Make m starts no further child.
     fn stop_make(&mut self, m: u32)
-        requires fit { Fit self.old }
         requires node { m < (model self.old).plan.nodes }
         ensures after { Remade self.old (with_node (model self.old) m (stop (at (model self.old) m))) self.new }
     {
@@ -31,7 +30,6 @@ impl Work {
 
     // No make starts a further child.
     fn stop_makes(&mut self)
-        requires fit { Fit self.old }
         ensures after { Remade self.old (stop_all (all_makes (model self.old).plan) (model self.old)) self.new }
     {
         for m in 0..self.tree.count() {
@@ -43,7 +41,6 @@ impl Work {
 
     // Every running job ends as failed by the halt, in rising number.
     fn end_jobs<P: Lender>(&mut self, pool: &mut P, buffer: &mut [u8])
-        requires fit { Fit self.old }
         requires backed { Backed P.Lender.ways pool.old (in_hand self.old.tokens) }
         requires room { reach self.old ≤ length buffer.old }
         ensures after { Leads P.Lender.ways (end_all answering (running_jobs (model self.old))) (λ r. r) (here self.old pool.old buffer.old) (here self.new pool.new buffer.new) }
@@ -62,11 +59,9 @@ impl Work {
         pool: &mut P,
         buffer: &mut [u8],
     ) -> Result<u32, Refusal>
-        requires fit { Fit self.old }
         requires within { reach self.old + unended (at (model self.old) 0).state ≤ needed (model self.old).plan }
         ensures after { Called P.Lender.ways only_halt (status self.old) pool.old buffer.old result (status self.new) pool.new buffer.new }
         ensures unaltered { OnErr result (self.new ≡ self.old) }
-        ensures fit { Fit self.new }
     {
         self.check_call(pool, buffer.len())?;
         self.note(Record::Halt, buffer);

@@ -1,7 +1,6 @@
 // Opening a build.
 ghost use Rattle.std.specs.Prelude.{◌≡◌, ◌+◌, ◌<◌, ◌≤◌, false, length, IfOk, OnErr};
 ghost use Rattle.build.specs.Changes.{Changed, reach};
-ghost use Rattle.build.specs.Fits.{Fit};
 ghost use Rattle.build.specs.Models.{model, status};
 ghost use Rattle.build.specs.Opening.{Fresh};
 ghost use Rattle.law.specs.Calls.{Opened};
@@ -64,7 +63,6 @@ pub(crate) fn unopened(heap: Global) -> Result<Work, AllocError>
 impl Work {
     // Becomes a build of the tree that has not begun, in the memory that is there.
     fn renew(&mut self, tree: &Tree, keep: bool)
-        requires fit { Fit self.old }
         ensures after { Fresh tree.now keep self.new }
     {
         let count = tree.count() as usize;
@@ -80,7 +78,6 @@ impl Work {
 
     // The top make is live, on a pool with so many tokens in.
     fn begin(&mut self, tokens: u32, buffer: &mut [u8])
-        requires fit { Fit self.old }
         requires waits { (at (model self.old) 0).state ≡ Waiting }
         requires few { tokens < 64 }
         requires room { reach self.old ≤ length buffer.old }
@@ -107,9 +104,7 @@ impl Work {
         pool: &mut P,
         buffer: &mut [u8],
     ) -> Result<u32, Refusal>
-        requires fit { Fit self.old }
         ensures after { Opened P.Lender.ways (plan_of (nodes_of tree.now)) keep (status self.old) pool.old buffer.old result (status self.new) pool.new buffer.new }
-        ensures fit { Fit self.new }
         ensures unaltered { OnErr result (self.new ≡ self.old) }
     {
         check_open(tree, pool, buffer.len())?;

@@ -1,7 +1,7 @@
 // Starting what may start.
 ghost use Rattle.std.specs.Prelude.{◌<◌, ◌≤◌, ◌∷◌, length};
 ghost use Rattle.build.specs.Changes.{Changed, MayStart, here, reach};
-ghost use Rattle.build.specs.Fits.{Fit, Backed};
+ghost use Rattle.build.specs.Hands.{Backed};
 ghost use Rattle.build.specs.Leads.{Ends};
 ghost use Rattle.build.specs.Models.{model, in_hand, may_start};
 ghost use Rattle.build.specs.Turning.{Turned, Kept};
@@ -21,7 +21,6 @@ use schedule::record::Record;
 impl Work {
     // The child runs, in the make's implicit slot.
     fn start_in_slot(&mut self, start: Start, buffer: &mut [u8])
-        requires fit { Fit self.old }
         requires start { MayStart (model self.old) (may_start start) }
         requires room { reach self.old ≤ length buffer.old }
         ensures after { Changed self.old buffer.old (in_state (model self.old) start.child Running) (StartInSlot start.make start.child) 0 self.new buffer.new }
@@ -38,7 +37,6 @@ impl Work {
 
     // The child runs, with a token that the make took.
     fn start_with_token(&mut self, start: Start, byte: u8, buffer: &mut [u8])
-        requires fit { Fit self.old }
         requires start { MayStart (model self.old) (may_start start) }
         requires room { reach self.old ≤ length buffer.old }
         ensures after { Changed self.old buffer.old (with_tokens (in_state (model self.old) start.child Running) (record { by = start.make; byte = byte } ∷ (model self.old).tokens)) (StartWithToken start.make start.child byte) 0 self.new buffer.new }
@@ -61,7 +59,6 @@ impl Work {
     // Makes the next start that may be made: in an implicit slot as long as one is free, else with a token. Answers whether
     // one was made.
     fn start_one<P: Lender>(&mut self, pool: &mut P, buffer: &mut [u8]) -> bool
-        requires fit { Fit self.old }
         requires backed { Backed P.Lender.ways pool.old (in_hand self.old.tokens) }
         requires room { reach self.old ≤ length buffer.old }
         ensures after { Turned P.Lender.ways (here self.old pool.old buffer.old) result (here self.new pool.new buffer.new) }
@@ -83,7 +80,6 @@ impl Work {
 
     // Starts until no token comes or nothing may start.
     pub(crate) fn settle<P: Lender>(&mut self, pool: &mut P, buffer: &mut [u8])
-        requires fit { Fit self.old }
         requires backed { Backed P.Lender.ways pool.old (in_hand self.old.tokens) }
         requires room { reach self.old ≤ length buffer.old }
         ensures after { Ends P.Lender.ways (settle answering) (here self.old pool.old buffer.old) (here self.new pool.new buffer.new) }

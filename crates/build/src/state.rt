@@ -1,13 +1,11 @@
 // A build: at work, with what every build keeps between two calls.
-ghost use Rattle.build.specs.Keeps.{Housed, Numbered, Lives, Paid, Works, AllGood, Blamed, GoesOn, AllDone, Idles, Untouched, Unstopped, StoppedWhy, Roomy};
+ghost use Rattle.build.specs.Keeps.{Lives, Paid, Works, AllGood, Blamed, GoesOn, AllDone, Idles, Untouched, Unstopped, StoppedWhy, Roomy};
 
 use crate::work::Work;
 
 #[derive(Drop)]
 pub struct Build {
     pub(crate) work: Work,
-    ghost housed: { Housed work },
-    ghost numbered: { Numbered work },
     ghost lives: { Lives work },
     ghost paid: { Paid work },
     ghost works: { Works work },

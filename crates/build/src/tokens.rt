@@ -1,7 +1,5 @@
 // The tokens in the hands of all makes, in the order in which they were taken.
 ghost use Rattle.std.specs.Prelude.{◌≡◌, ◌+◌, ◌<◌, ◌≤◌, ◌∷◌, ◌++◌, map, vec_len, vec_capacity};
-ghost use Rattle.build.specs.Hands.{in_hands, own_bytes, LastOf, GaveBack};
-ghost use Rattle.build.specs.Models.{held, in_hand};
 
 // A token in a make's hand.
 #[derive(Clone, Copy)]
@@ -13,9 +11,14 @@ pub(crate) struct Token {
 #[derive(Drop)]
 pub(crate) struct Tokens {
     pub(crate) held: Vec<Token>,
+    // for as many tokens as a tree has nodes
+    ghost room: { 200 ≤ vec_capacity held },
 }
 
 impl Tokens {
+    ghost use Rattle.build.specs.Hands.{in_hands, own_bytes, LastOf, GaveBack};
+    ghost use Rattle.build.specs.Models.{held, in_hand};
+
     // How many tokens of this byte are in hand.
     pub(crate) fn count(&self, byte: u8) -> usize
         ensures { result ≡ in_hands byte (in_hand self.now) }
@@ -25,10 +28,8 @@ impl Tokens {
 
     // The make takes a token into its hand.
     pub(crate) fn take_up(&mut self, token: Token)
-        requires room { vec_len self.old.held < vec_capacity self.old.held }
-        ensures after { in_hand self.new ≡ held token ∷ in_hand self.old }
-        ensures len { vec_len self.new.held ≡ vec_len self.old.held + 1 }
-        ensures capacity { vec_capacity self.new.held ≡ vec_capacity self.old.held }
+        requires { vec_len self.old.held < 200 }
+        ensures { in_hand self.new ≡ held token ∷ in_hand self.old }
     {
         self.held.push_reserved(token);
     }
@@ -42,8 +43,7 @@ impl Tokens {
 
     // The token of the make that goes back: the one that it took last.
     pub(crate) fn give_back(&mut self, make: u32) -> Option<u8>
-        ensures after { GaveBack make (in_hand self.old) result (in_hand self.new) }
-        ensures capacity { vec_capacity self.new.held ≡ vec_capacity self.old.held }
+        ensures { GaveBack make (in_hand self.old) result (in_hand self.new) }
     {
         let last = self.last_of(make)?;
         Some(self.held.remove(last).byte)

@@ -1,4 +1,9 @@
 // A build at work: its tree, how far each node is, the tokens in hand, and how much of its schedule is written.
+ghost use Rattle.std.specs.Prelude.{◌≡◌, ◌+◌, ◌*◌, ◌≤◌, min, vec_len, vec_capacity};
+ghost use Rattle.build.specs.Rooms.{to_start, to_end};
+ghost use Rattle.tree.specs.Copying.{room_of};
+ghost use Rattle.tree.specs.Questions.{count_of};
+
 use crate::losses::Losses;
 use crate::tokens::Tokens;
 use rules::Progress;
@@ -13,4 +18,11 @@ pub(crate) struct Work {
     // the tokens that its make held when a job failed
     pub(crate) losses: Losses,
     pub(crate) written: usize,
+    // every node has its place, and every tree would have room
+    ghost whole: { vec_len nodes ≡ count_of tree },
+    ghost wide: { 200 ≤ min (vec_capacity nodes) (room_of tree) },
+    // all that may still be taken up and noted has room
+    ghost few: { vec_len tokens.held + to_start nodes.items ≤ vec_len nodes },
+    ghost listed: { vec_len losses.jobs + to_end nodes.items ≤ 200 },
+    ghost noted: { vec_len losses.bytes + 200 * to_end nodes.items ≤ 40000 },
 }

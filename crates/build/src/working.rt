@@ -1,7 +1,7 @@
 // One step of a job, and a kill.
 ghost use Rattle.std.specs.Prelude.{◌≡◌, ◌<◌, ◌≤◌, false, length};
 ghost use Rattle.build.specs.Changes.{here, reach};
-ghost use Rattle.build.specs.Fits.{Fit, Backed};
+ghost use Rattle.build.specs.Hands.{Backed};
 ghost use Rattle.build.specs.Leads.{Leads};
 ghost use Rattle.build.specs.Models.{model, in_hand};
 ghost use Rattle.build.specs.Turning.{Kept};
@@ -37,9 +37,9 @@ fn last_end(kind: Kind) -> Result<(), Cause>
 impl Work {
     // Job n does a step.
     fn step_one(&mut self, n: u32, buffer: &mut [u8])
-        requires fit { Fit self.old }
         requires job { (n < (model self.old).plan.nodes) × (is_make (model self.old).plan n ≡ false) }
         requires runs { (at (model self.old) n).state ≡ Running }
+        requires left { (at (model self.old) n).done < (model self.old).plan.steps n }
         requires room { reach self.old ≤ length buffer.old }
         ensures after { Stepped n self.old buffer.old self.new buffer.new }
     {
@@ -50,10 +50,10 @@ impl Work {
 
     // Job n does a step, and ends with its last one.
     pub(crate) fn work_on<P: Lender>(&mut self, n: u32, pool: &mut P, buffer: &mut [u8])
-        requires fit { Fit self.old }
         requires backed { Backed P.Lender.ways pool.old (in_hand self.old.tokens) }
         requires job { (n < (model self.old).plan.nodes) × (is_make (model self.old).plan n ≡ false) }
         requires runs { (at (model self.old) n).state ≡ Running }
+        requires left { (at (model self.old) n).done < (model self.old).plan.steps n }
         requires room { reach self.old ≤ length buffer.old }
         ensures after { Leads P.Lender.ways (worked answering n) (λ r. r) (here self.old pool.old buffer.old) (here self.new pool.new buffer.new) }
         ensures kept { Kept P.Lender.ways self.old (reach self.old) self.new pool.new }
@@ -67,7 +67,6 @@ impl Work {
 
     // Job n is killed.
     pub(crate) fn kill_one<P: Lender>(&mut self, n: u32, pool: &mut P, buffer: &mut [u8])
-        requires fit { Fit self.old }
         requires backed { Backed P.Lender.ways pool.old (in_hand self.old.tokens) }
         requires node { n < (model self.old).plan.nodes }
         requires runs { (at (model self.old) n).state ≡ Running }

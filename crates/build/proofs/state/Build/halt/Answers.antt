@@ -1,4 +1,4 @@
-use Rattle.build.proofs.Keeping.{kept_by, fit_by, sound_by}
+use Rattle.build.proofs.Keeping.{kept_by, sound_by}
 use Rattle.build.proofs.Reaching.{reach_within}
 use Rattle.build.proofs.state.Build.halt.Goals as goal
 use Rattle.build.specs.Models.{status}
@@ -6,13 +6,13 @@ use Rattle.law.proofs.Sounding.{sound_call}
 use Rattle.law.specs.Calls as requests
 
 pub halt-requires : goal.halt-requires
-halt-requires g c = let b = c.args.self.now in record { fit = fit_by b; within = reach_within b.work (sound_by b) }
+halt-requires g c = let b = c.args.self.now in record { within = reach_within b.work (sound_by b) }
 
 pub invariant_of-self : goal.invariant_of-self
 invariant_of-self g c =
     let b = c.args.self.now in
     let done = c.halt in
-    kept_by done.new.self done.ensures.fit
+    kept_by done.new.self
     (sound_call g.P.Lender.ways requests.halt (status b.work) (status done.new.self) c.args.pool.now done.new.pool c.args.buffer.now done.new.buffer done.result (sound_by b) done.ensures.after)
 
 pub returns : goal.returns

@@ -1,9 +1,6 @@
-use Rattle.std.proofs.Common.{◌≡◌, false, vec_capacity, sym, ap, ◌∙◌, subst}
-use Rattle.build.proofs.Fresh.{fresh_fits}
+use Rattle.std.proofs.Common.{◌≡◌, sym, ap, ◌∙◌, subst}
 use Rattle.build.proofs.Keeping.{kept_by}
 use Rattle.build.proofs.state.Build.new.Goals as goal
-use Rattle.build.specs.Lost.{memory}
-use Rattle.build.specs.Fits.{Fits, rows_of}
 use Rattle.build.specs.Models.{status}
 use Rattle.law.proofs.Planning.{trees_planned}
 use Rattle.law.proofs.Sounding.{fresh_sound}
@@ -18,7 +15,7 @@ invariant_of-result c =
     let fresh = c.in_ok-work.ensures.result.0 in
     let t = plan_of (nodes_of e.tree) in
     let same : status e ≡ unopened t = λ i. record { build = fresh.build i; written = fresh.written i } in
-    kept_by e (subst (λ d. Fits d (vec_capacity e.tokens.held) (memory e.losses) (rows_of e)) (sym fresh.build) (fresh_fits e.tree false _ _ _ fresh.hands fresh.jobs fresh.notes fresh.none fresh.rows)) (subst Sound (sym same) (fresh_sound t (trees_planned e.tree)))
+    kept_by e (subst Sound (sym same) (fresh_sound t (trees_planned e.tree)))
 
 pub returns : goal.returns
 returns c =

@@ -1,5 +1,5 @@
 use Rattle.std.proofs.Common.{ℕ, Bool, List, IfOk, Ok, Err, Result}
-use Rattle.build.proofs.Keeping.{kept_by, fit_by, sound_by}
+use Rattle.build.proofs.Keeping.{kept_by, sound_by}
 use Rattle.build.proofs.state.Build.open.Goals as goal
 use Rattle.build.specs.Models.{status}
 use Rattle.law.proofs.Following.{follow, follow_open, law_now}
@@ -27,15 +27,12 @@ reads_made : {P : Type 0} (w : Ways P) (tree : Tree) (keep : Bool) (before after
 reads_made w tree keep before after p q old new (Ok n) opened = reads_back w (plan_of (nodes_of tree)) keep before after p q old new n opened
 reads_made w tree keep before after p q old new (Err e) opened = tt
 
-pub open-requires : goal.open-requires
-open-requires g c = record { fit = fit_by c.args.self.now }
-
 pub invariant_of-self : goal.invariant_of-self
 invariant_of-self g c =
     let b = c.args.self.now in
     let tree = c.args.tree.now in
     let done = c.open in
-    kept_by done.new.self done.ensures.fit
+    kept_by done.new.self
     (sound_open g.P.Lender.ways (plan_of (nodes_of tree)) (trees_planned tree) c.args.keep (status b.work) (status done.new.self) c.args.pool.now done.new.pool c.args.buffer.now done.new.buffer done.result (sound_by b) done.ensures.after)
 
 pub returns : goal.returns

@@ -1,5 +1,5 @@
 use Rattle.std.proofs.Common.{arith}
-use Rattle.build.proofs.Keeping.{kept_by, fit_by, sound_by}
+use Rattle.build.proofs.Keeping.{kept_by, sound_by}
 use Rattle.build.proofs.Reaching.{reach_within}
 use Rattle.build.proofs.state.Build.poll.Goals as goal
 use Rattle.build.specs.Models.{status}
@@ -7,13 +7,13 @@ use Rattle.law.proofs.Sounding.{sound_call}
 use Rattle.law.specs.Calls as requests
 
 pub poll-requires : goal.poll-requires
-poll-requires g c = let b = c.args.self.now in record { fit = fit_by b; within = omega (arith, reach_within b.work (sound_by b)) }
+poll-requires g c = let b = c.args.self.now in record { within = omega (arith, reach_within b.work (sound_by b)) }
 
 pub invariant_of-self : goal.invariant_of-self
 invariant_of-self g c =
     let b = c.args.self.now in
     let done = c.poll in
-    kept_by done.new.self done.ensures.still.fit
+    kept_by done.new.self
     (sound_call g.P.Lender.ways (requests.poll) (status b.work) (status done.new.self) c.args.pool.now done.new.pool c.args.buffer.now done.new.buffer done.result (sound_by b) done.ensures.after)
 
 pub returns : goal.returns

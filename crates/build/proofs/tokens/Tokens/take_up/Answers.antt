@@ -6,8 +6,4 @@ use Rattle.build.proofs.tokens.Tokens.take_up.Goals as goal
 pub returns : goal.returns
 returns c =
     let xs = vec_items c.args.self.now.held in
-    record {
-      after = ap (λ l. reverse (map held l)) c.push_reserved.ensures.items ∙ ap reverse (map_push held xs c.args.token) ∙ reverse-append (map held xs) (held c.args.token ∷ []);
-      len = c.push_reserved.ensures.len;
-      capacity = c.push_reserved.ensures.capacity;
-    }
+    ap (λ l. reverse (map held l)) c.push_reserved.ensures.items ∙ ap reverse (map_push held xs c.args.token) ∙ reverse-append (map held xs) (held c.args.token ∷ [])

@@ -4,11 +4,10 @@ use Rattle.rules.specs.Ending.{finish}
 use Rattle.rules.specs.Events.{state_of}
 use Rattle.rules.proofs.Tales.{trees_ordered}
 use Rattle.build.specs.Changes.{reach}
-use Rattle.build.specs.Fits.{Fit, Backed}
+use Rattle.build.specs.Hands.{Backed}
 use Rattle.build.specs.Models.{model}
 use Rattle.build.specs.Rooms.{room}
 use Rattle.build.proofs.Altering.{kept_both}
-use Rattle.build.proofs.Fitting.{fits_other}
 use Rattle.build.proofs.Leading.{leads_then, leads_both}
 use Rattle.build.proofs.Upwards.{ends_leads, finish_leads, top_leads, stays_leads, over_leads, over_runs}
 use Rattle.build.proofs.work.Work.+end.Goals as goal
@@ -19,13 +18,12 @@ returns-then-n-eq0 g t c =
     let how = c.args.how in
     let change = c.end_one.ensures.after in
     let noted = c.finish.ensures.after in
-    let is : model c.finish.new.self ≡ model c.end_one.new.self = ap model noted.same in
+    let is : model c.finish.new.self ≡ model c.end_one.new.self = noted.build in
     let build = is ∙ change.build in
     let ended = ends_leads w (model c.args.self.now) how c.args.n _ change.build change.wrote in
     record {
       after = top_leads w (state_of how) c.args.n _ _ c.if-n-eq0.true (leads_both w (leads_then w finish ended) (finish_leads w (model c.end_one.new.self) _ is noted.wrote));
       kept = record {
-        fit = subst Fit (sym noted.same) change.fit;
         backed = subst (Backed w _) (sym (ap (λ (d : Build). d.tokens) build)) c.requires.backed;
         plan = ap (λ (d : Build). d.plan) build;
         keep = ap (λ (d : Build). d.keep) build;
@@ -41,7 +39,7 @@ end-requires g t c κs within =
     let below = (tree.placed n (omega arith, c.requires.node)).0 in
     let nodes = ap (λ p. p.nodes) kept.plan in
     let runs = over_runs (model c.end_child.new.self) c.make_of-m.result (sym c.if-is_over.ensures) in
-    (omega (arith, c.decreases), (within, (fits_other c.make_of-m.result kept.fit, (kept.backed, (omega (arith, c.requires.node), (runs, omega (arith, kept.spent, c.requires.room, c.end_child.auto.buffer)))))))
+    (omega (arith, c.decreases), (within, (kept.backed, (omega (arith, c.requires.node), (runs, omega (arith, kept.spent, c.requires.room, c.end_child.auto.buffer))))))
 
 pub returns-then-is_over : goal.returns-then-is_over
 returns-then-is_over g t c =

@@ -1,5 +1,4 @@
 use Rattle.std.proofs.Common.{◌+◌, ◌<◌, not, sym, ap, subst, arith}
-use Rattle.build.proofs.Fitting.{fits_other}
 use Rattle.build.proofs.Halts.{EndingJobs, ending_none, ending_one, ending_on, ending_all}
 use Rattle.build.proofs.Upwards.{running_state}
 use Rattle.build.specs.Models.{model}
@@ -10,7 +9,7 @@ use Rattle.rules.specs.Plans.{is_make}
 use Rattle.std.proofs.lemmas.Bool.{and_parts}
 
 pub loop-n-init : goal.loop-n-init
-loop-n-init g c = ending_none g.P.Lender.ways c.args.self.now c.args.pool.now c.args.buffer.now c.requires.fit c.requires.backed (omega (arith, c.requires.room))
+loop-n-init g c = ending_none g.P.Lender.ways c.args.self.now c.args.pool.now c.args.buffer.now c.requires.backed (omega (arith, c.requires.room))
 
 pub end-requires : goal.end-requires
 end-requires g c =
@@ -20,7 +19,6 @@ end-requires g c =
     let n = c.loop-n.n in
     let parts = and_parts (running b n) (not (is_make b.plan n)) (sym c.if-runs_as_job.ensures) in
     record {
-      fit = fits_other n s.kept.fit;
       backed = s.kept.backed;
       node = omega (arith, same);
       runs = running_state (at b n).state parts.0;

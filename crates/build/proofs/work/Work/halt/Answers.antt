@@ -2,7 +2,7 @@ use Rattle.std.proofs.Common.{◌≡◌, length, sym, ap, ◌∙◌, subst, arit
 use Rattle.build.proofs.Accepting.{call_accepts, called}
 use Rattle.build.proofs.Halts.{halt_leads, stop_tokens}
 use Rattle.build.proofs.Leading.{ends_here}
-use Rattle.build.specs.Fits.{Fit, Backed}
+use Rattle.build.specs.Hands.{Backed}
 use Rattle.build.specs.Models.{model}
 use Rattle.build.specs.Rooms.{room, unended}
 use Rattle.build.proofs.work.Work.halt.Goals as goal
@@ -16,9 +16,6 @@ note-requires g c =
     let accepts = call_accepts b (g.P.Lender.ways.means c.args.pool.now).outs (length c.args.buffer.now) c.in_ok-check_call.ensures in
     record { room = omega (arith, c.requires.within, accepts.long, ap unended accepts.live) }
 
-pub stop_makes-requires : goal.stop_makes-requires
-stop_makes-requires g c = record { fit = subst Fit (sym c.note.ensures.after.same) c.requires.fit }
-
 pub end_jobs-requires : goal.end_jobs-requires
 end_jobs-requires g c =
     let w = g.P.Lender.ways in
@@ -26,10 +23,9 @@ end_jobs-requires g c =
     let accepts = call_accepts b (w.means c.args.pool.now).outs (length c.args.buffer.now) c.in_ok-check_call.ensures in
     let noted = c.note.ensures.after in
     let stopped = c.stop_makes.ensures.after in
-    let same : model c.note.new.self ≡ b = ap model noted.same in
+    let same : model c.note.new.self ≡ b = noted.build in
     let tokens = ap (λ (d : Build). d.tokens) stopped.build ∙ stop_tokens (all_makes (model c.note.new.self).plan) (model c.note.new.self) ∙ ap (λ (d : Build). d.tokens) same in
     record {
-      fit = stopped.fit;
       backed = subst (Backed w c.args.pool.now) (sym tokens) accepts.backed;
       room = omega (arith, stopped.spent, c.requires.within, accepts.long, ap unended accepts.live, noted.wrote.end, ap room same, c.note.auto.buffer);
     }
@@ -44,5 +40,4 @@ returns g c =
     record {
       after = called w halt _ _ _ c.in_ok-check_call.ensures (ends_here w (halt_leads w c.args.self.now c.note.new.self c.stop_makes.new.self c.end_jobs.new.self noted stopped.build stopped.written (omega (arith, noted.wrote.room, c.note.auto.buffer)) c.end_jobs.ensures.after)) c.count_running.ensures;
       unaltered = tt;
-      fit = c.end_jobs.ensures.kept.fit;
     }

@@ -2,11 +2,10 @@ use Rattle.std.proofs.Common.{length, arith}
 use Rattle.law.specs.Answers.{answering}
 use Rattle.law.specs.Calls.{kill}
 use Rattle.rules.specs.Settling.{settle}
-use Rattle.build.specs.Changes.{reach}
 use Rattle.build.specs.Models.{model}
 use Rattle.build.proofs.Accepting.{job_accepts, runs_inside, called}
-use Rattle.build.proofs.Altering.{kept_both, still_kept}
 use Rattle.build.proofs.Leading.{leads_then, leads_end}
+use Rattle.build.proofs.Fitting.{fits}
 use Rattle.build.proofs.work.Work.kill.Goals as goal
 
 pub kill_one-requires : goal.kill_one-requires
@@ -14,9 +13,8 @@ kill_one-requires g c =
     let accepts = job_accepts (model c.args.self.now) (g.P.Lender.ways.means c.args.pool.now).outs (length c.args.buffer.now) c.args.n c.in_ok-check_job.ensures in
     let inside = runs_inside (model c.args.self.now) c.args.n accepts.runs in
     record {
-      fit = c.requires.fit;
       backed = accepts.call.backed;
-      node = omega (arith, c.requires.fit.whole);
+      node = omega (arith, (fits c.args.self.now).whole);
       runs = accepts.runs;
       room = omega (arith, c.requires.within, accepts.call.long);
     }
@@ -25,7 +23,7 @@ pub settle-requires : goal.settle-requires
 settle-requires g c =
     let accepts = job_accepts (model c.args.self.now) (g.P.Lender.ways.means c.args.pool.now).outs (length c.args.buffer.now) c.args.n c.in_ok-check_job.ensures in
     let kept = c.kill_one.ensures.kept in
-    record { fit = kept.fit; backed = kept.backed; room = omega (arith, kept.spent, c.requires.within, accepts.call.long, c.kill_one.auto.buffer) }
+    record { backed = kept.backed; room = omega (arith, kept.spent, c.requires.within, accepts.call.long, c.kill_one.auto.buffer) }
 
 pub returns : goal.returns
 returns g c =
@@ -33,5 +31,4 @@ returns g c =
     record {
       after = called w (kill c.args.n) _ _ _ c.in_ok-check_job.ensures (leads_end w (leads_then w (settle answering) c.kill_one.ensures.after) c.settle.ensures.after) c.count_running.ensures;
       unaltered = tt;
-      still = still_kept (kept_both (reach c.args.self.now) (λ h. h) c.kill_one.ensures.kept c.settle.ensures.kept);
     }

@@ -1,4 +1,4 @@
-use Rattle.std.proofs.Common.{◌≡◌, ◌+◌, length, vec_capacity, sym, ap, ◌∙◌, subst, arith}
+use Rattle.std.proofs.Common.{◌≡◌, ◌+◌, length, sym, ap, ◌∙◌, subst, arith}
 use Rattle.law.specs.Answers.{answering}
 use Rattle.pool.specs.Meaning.{total}
 use Rattle.rules.specs.Builds.{Build, at, begun_on, in_state}
@@ -11,11 +11,10 @@ use Rattle.schedule.specs.Buffers.{Wrote}
 use Rattle.schedule.specs.Records.{bytes}
 use Rattle.schedule.specs.declared.record.Record.TheVariants.{Open}
 use Rattle.tree.specs.Questions.{nodes_of}
-use Rattle.build.specs.Lost.{memory}
-use Rattle.build.specs.Fits.{Fits, Backed, rows_of}
+use Rattle.build.specs.Hands.{Backed}
 use Rattle.build.specs.Models.{model}
 use Rattle.build.specs.Rooms.{room}
-use Rattle.build.proofs.Fresh.{fresh_fits, fresh_room, fresh_waits, open_accepts}
+use Rattle.build.proofs.Fresh.{fresh_room, fresh_waits, open_accepts}
 use Rattle.build.proofs.Handing.{in_hands_none}
 use Rattle.build.proofs.Leading.{leads_then, leads_end, ran}
 use Rattle.build.proofs.Steps.{begun_leads}
@@ -29,7 +28,6 @@ begin-requires g c =
     let fresh = c.renew.ensures.after in
     let long = open_accepts (plan_of (nodes_of t)) (total (g.P.Lender.ways.means c.args.pool.now).outs) (length c.args.buffer.now) c.in_ok-check_open.ensures in
     record {
-      fit = subst (λ d. Fits d (vec_capacity e.tokens.held) (memory e.losses) (rows_of e)) (sym fresh.build) (fresh_fits t keep _ _ _ fresh.hands fresh.jobs fresh.notes fresh.none fresh.rows);
       waits = ap (λ (d : Build). (at d 0).state) fresh.build ∙ ap (λ (x : Progress). x.state) (fresh_waits (plan_of (nodes_of t)) keep 0);
       few = omega (arith, c.total_in-tokens.ensures, (g.met.P.Lender.bounded c.args.pool.now).few);
       room = omega (arith, long, fresh.written, ap room fresh.build, fresh_room t keep);
@@ -43,7 +41,6 @@ settle-requires g c =
     let long = open_accepts (plan_of (nodes_of t)) (total (g.P.Lender.ways.means c.args.pool.now).outs) (length c.args.buffer.now) c.in_ok-check_open.ensures in
     let none = ap (λ (d : Build). d.tokens) change.build ∙ ap (λ (d : Build). d.tokens) fresh.build in
     record {
-      fit = change.fit;
       backed = subst (Backed g.P.Lender.ways c.args.pool.now) (sym none) (λ k. omega (arith, in_hands_none k));
       room = omega (arith, change.spent, long, fresh.written, ap room fresh.build, fresh_room t c.args.keep, c.begin.auto.buffer);
     }
@@ -67,6 +64,5 @@ returns g c =
     let ends = leads_end w (leads_then w (settle answering) opens) c.settle.ensures.after in
     record {
       after = (sym c.in_ok-check_open.ensures, ran w (λ r. settle answering (noted (Open (tokens + 1) (bit keep) t.nodes) r)) _ _ ends, c.count_running.ensures);
-      fit = kept.fit;
       unaltered = tt;
     }

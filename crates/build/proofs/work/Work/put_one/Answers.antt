@@ -1,25 +1,36 @@
-use Rattle.std.proofs.Common.{◌≡◌, vec_capacity, sym, refl, ap, subst, arith}
+use Rattle.std.proofs.Common.{◌≡◌, sym, refl, ap, subst, arith}
 use Rattle.pool.specs.Ways.{Put}
 use Rattle.rules.specs.Builds.{Build, with_tokens}
-use Rattle.build.specs.Lost.{memory}
-use Rattle.build.specs.Fits.{Fit, Fits, Backed, rows_of}
+use Rattle.build.specs.Hands.{Backed}
 use Rattle.build.specs.Models.{model, in_hand}
 use Rattle.build.specs.Rooms.{room}
-use Rattle.build.proofs.Fitting.{fits_fewer}
-use Rattle.build.proofs.Returning.{back_fewer, back_out, backed_fewer, put_goes, put_none_leads, put_one_leads}
+use Rattle.build.proofs.Returning.{back_fewer, back_out, backed_fewer, put_goes, put_none_leads, put_one_leads, gave_fewer}
+use Rattle.build.proofs.Shown.{length_hand}
 use Rattle.build.proofs.work.Work.put_one.Goals as goal
+
+pub invariant_of-self : goal.invariant_of-self
+invariant_of-self g c =
+    let e = c.args.self.now in
+    let left = c.give_back.new.self in
+    let fewer = gave_fewer c.args.m (in_hand e.tokens) c.give_back.result (in_hand left) c.give_back.ensures in
+    record {
+      whole = e.whole;
+      wide = e.wide;
+      few = omega (arith, e.few, fewer, length_hand e.tokens, length_hand left, e.tokens.held.ok.0, left.held.ok.0);
+      listed = e.listed;
+      noted = e.noted;
+    }
 
 pub returns-in_default : goal.returns-in_default
 returns-in_default g c =
     let w = g.P.Lender.ways in
     let e = c.args.self.now in
     let b = model e in
-    let none = c.in_default.ensures.after in
+    let none = c.in_default.ensures in
     let same = none.1 in
     record {
       after = put_none_leads w b c.args.m _ _ _ e.written (omega (arith, c.requires.room)) none.0 (ap (with_tokens b) same);
       kept = record {
-        fit = subst (λ h. Fits (with_tokens b (in_hand c.give_back.new.self)) h (memory e.losses) (rows_of e)) (sym c.in_default.ensures.capacity) (subst (λ ts. Fits (with_tokens b ts) (vec_capacity e.tokens.held) (memory e.losses) (rows_of e)) (sym same) c.requires.fit);
         backed = subst (Backed w _) (sym same) c.requires.backed;
         plan = refl;
         keep = refl;
@@ -29,23 +40,22 @@ returns-in_default g c =
 
 pub unwrap-requires : goal.unwrap-requires
 unwrap-requires g c =
-    put_goes g.P.Lender.ways _ _ _ c.put.result c.put.ensures (omega (arith, back_out g.P.Lender.ways _ _ _ _ _ c.requires.backed c.in-Some.ensures.after))
+    put_goes g.P.Lender.ways _ _ _ c.put.result c.put.ensures (omega (arith, back_out g.P.Lender.ways _ _ _ _ _ c.requires.backed c.in-Some.ensures))
 
 pub returns : goal.returns
 returns g c =
     let w = g.P.Lender.ways in
     let e = c.args.self.now in
     let b = model e in
-    let found = c.in-Some.ensures.after in
+    let found = c.in-Some.ensures in
     let back = subst (λ r. Put w c.args.pool.now c.in-Some.byte r c.put.new.self) c.unwrap.ensures c.put.ensures in
     let left = in_hand c.give_back.new.self in
     let noted = c.note.ensures.after in
-    let is : model c.note.new.self ≡ with_tokens b left = ap model noted.same in
+    let is : model c.note.new.self ≡ with_tokens b left = noted.build in
     let fewer = back_fewer c.args.m b.tokens c.in-Some.byte left found in
     record {
       after = put_one_leads w b c.args.m _ c.in-Some.byte left found back is noted.wrote;
       kept = record {
-        fit = subst Fit (sym noted.same) (subst (λ h. Fits (with_tokens b left) h (memory e.losses) (rows_of e)) (sym c.in-Some.ensures.capacity) (fits_fewer b left c.requires.fit (omega (arith, fewer.long))));
         backed = subst (Backed w _) (sym (ap (λ (d : Build). d.tokens) is)) (backed_fewer w _ _ c.args.m b.tokens c.in-Some.byte left c.requires.backed found (g.met.P.Lender.returned _ _ _ back));
         plan = ap (λ (d : Build). d.plan) is;
         keep = ap (λ (d : Build). d.keep) is;

@@ -2,16 +2,17 @@ use Rattle.std.proofs.Common.{arith}
 use Rattle.build.specs.Changes.{reach}
 use Rattle.build.proofs.Altering.{kept_same, kept_both}
 use Rattle.build.proofs.Settles.{settling_none, settling_more, settling_all}
+use Rattle.build.proofs.Fitting.{fits}
 use Rattle.build.proofs.work.Work.settle.Goals as goal
 
 pub loop-init : goal.loop-init
 loop-init g c =
     let w = g.P.Lender.ways in
-    (settling_none w _ (omega (arith, c.requires.room)) (omega (arith, c.requires.fit.few)), kept_same w _ c.args.self.now c.requires.fit c.requires.backed)
+    (settling_none w _ (omega (arith, c.requires.room)) (omega (arith, (fits c.args.self.now).few)), kept_same w _ c.args.self.now c.requires.backed)
 
 pub start_one-requires : goal.start_one-requires
 start_one-requires g c =
-    let kept = c.loop.invariant.1 in record { fit = kept.fit; backed = kept.backed; room = omega (arith, kept.spent, c.requires.room, c.loop.auto.buffer) }
+    let kept = c.loop.invariant.1 in record { backed = kept.backed; room = omega (arith, kept.spent, c.requires.room, c.loop.auto.buffer) }
 
 pub loop-smaller : goal.loop-smaller
 loop-smaller g c = omega (arith, c.loop-test.ensures.after.1)

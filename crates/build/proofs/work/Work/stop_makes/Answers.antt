@@ -5,13 +5,13 @@ use Rattle.build.proofs.work.Work.stop_makes.Goals as goal
 use Rattle.build.proofs.work.Work.stop_makes.Goals.{then-is_make, else-is_make}
 
 pub loop-m-init : goal.loop-m-init
-loop-m-init c = stopping_none c.args.self.now c.requires.fit
+loop-m-init c = stopping_none c.args.self.now
 
 pub stop_make-requires : goal.stop_make-requires
 stop_make-requires c =
     let s = c.loop-m.invariant in
     let same = ap (λ t. t.nodes) s.plan in
-    record { fit = s.fit; node = omega (arith, same) }
+    record { node = omega (arith, same) }
 
 pub loop-m-preserved : goal.loop-m-preserved
 loop-m-preserved c =

@@ -2,9 +2,8 @@ use Rattle.std.proofs.Common.{◌≡◌, sym, ap, ◌∙◌, subst, arith}
 use Rattle.rules.specs.Builds.{Build, at}
 use Rattle.rules.specs.Calls.{last_step}
 use Rattle.rules.specs.Events.{state_of}
-use Rattle.build.specs.Fits.{Backed}
+use Rattle.build.specs.Hands.{Backed}
 use Rattle.build.specs.Models.{model}
-use Rattle.build.proofs.Fitting.{fits_all}
 use Rattle.build.proofs.Leading.{leads_both}
 use Rattle.build.proofs.Steps.{step_leads, last_leads}
 use Rattle.build.proofs.work.Work.work_on.Goals as goal
@@ -21,7 +20,6 @@ returns-then-progress-steps_of g c =
     record {
       after = leads_both w (last_leads w n b b' stepped.build stepped.wrote last (state_of c.last_end-how.result) (c.last_end-how.ensures ∙ ap last_step c.kind_of.ensures)) c.end.ensures.after;
       kept = record {
-        fit = kept.fit;
         backed = kept.backed;
         plan = kept.plan ∙ ap (λ (d : Build). d.plan) stepped.build;
         keep = kept.keep ∙ ap (λ (d : Build). d.keep) stepped.build;
@@ -41,7 +39,6 @@ returns-else-progress-steps_of g c =
     record {
       after = step_leads w n b b' stepped.build stepped.wrote more;
       kept = record {
-        fit = fits_all n b' stepped.fit (omega (arith, stepped.done, more));
         backed = subst (Backed w _) (sym (ap (λ (d : Build). d.tokens) stepped.build)) c.requires.backed;
         plan = ap (λ (d : Build). d.plan) stepped.build;
         keep = ap (λ (d : Build). d.keep) stepped.build;
