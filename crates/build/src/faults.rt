@@ -59,6 +59,7 @@ impl Work {
         ensures result { option_map (fault_from (model self.now)) result ≡ fault_by (model self.now) (model self.now).plan.nodes n }
     {
         let mut k = n;
+        // each turn goes on to a child, which has a higher number: as many turns as nodes suffice
         for _turns in (0..self.tree.count()).rev() {
             let node = self.progress(k);
             let State::Failed(cause) = node.state else {

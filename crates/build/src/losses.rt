@@ -11,7 +11,8 @@ pub(crate) struct Loss {
     pub(crate) from: usize,
 }
 
-// The jobs in the order of failing; the bytes of each reach to where those of the next begin.
+// The jobs in the order of failing; the bytes of each reach to where those of the next begin. They lie in one list, so that
+// noting them asks for no memory.
 #[derive(Drop)]
 pub(crate) struct Losses {
     pub(crate) jobs: Vec<Loss>,

@@ -31,8 +31,8 @@ fn total_in<P: Lender>(pool: &P) -> u32
     ensures { result ≡ total (P.Lender.ways.means pool.now).ins }
 {
     let mut tokens = 0;
-    for byte in 0..256u32 {
-        tokens += pool.count_in(byte as u8);
+    for byte in 0..=255u8 {
+        tokens += pool.count_in(byte);
     }
     tokens
 }

@@ -2,7 +2,7 @@
 ghost use Rattle.std.specs.Prelude.{◌≡◌, length, IfOk};
 ghost use Rattle.build.specs.Questions.{Listed, ChildlessJob};
 ghost use Rattle.build.specs.Models.{model};
-ghost use Rattle.rules.specs.Builds.{at, running, running_jobs, tokens_of, finished};
+ghost use Rattle.rules.specs.Builds.{at, running, tokens_of, finished};
 ghost use Rattle.rules.specs.Lists.{those};
 ghost use Rattle.rules.specs.Plans.{children, needed};
 ghost use Rattle.rules.specs.Startable.{startable};
@@ -79,13 +79,6 @@ impl Work {
     {
         self.node(m)?;
         self.tokens_of(heap, m).map_err(|_| Unanswered::NoMemory)
-    }
-
-    // How many jobs run.
-    pub(crate) fn running_jobs(&self) -> u32
-        ensures result { result ≡ length (running_jobs (model self.now)) }
-    {
-        self.count_running()
     }
 
     // Whether the build is finished: its top make has ended.

@@ -9,10 +9,13 @@ use crate::tokens::Tokens;
 use rules::Progress;
 use tree::Tree;
 
+// Pool and buffer go from call to call beside it: each call is handed its own, and a build keeps neither. So what is asked of
+// all three, as that the buffer has room, and what is so of a node only while it runs, stands on the functions.
 #[derive(Drop)]
 pub(crate) struct Work {
     pub(crate) tree: Tree,
     pub(crate) keep: bool,
+    // by the numbers of the tree's nodes, beside the tree, which stays as it is
     pub(crate) nodes: Vec<Progress>,
     pub(crate) tokens: Tokens,
     // the tokens that its make held when a job failed

@@ -11,6 +11,7 @@ const SCRIPT: &str = "job a 2\nmake lib\njob b 1\nfail c 2\njob d 1\ndone\nwait\
 // 7 + 12 for each of the 7 nodes + 2 for each of the 7 steps.
 const NEEDED: usize = 105;
 
+// A call as data, so that the rows below can be constants.
 enum Call {
     Step(u32),
     Kill(u32),

@@ -77,9 +77,7 @@ impl Progress {
         if !keep {
             self.stopped = true;
         }
-        if self.first_failed.is_none() {
-            self.first_failed = Some(child);
-        }
+        self.first_failed = self.first_failed.or(Some(child));
     }
 
     // The make starts no further child.
