@@ -5,15 +5,15 @@ ghost use Rattle.rules.specs.Refusing.{number};
 #[derive(Clone, Copy, Debug, PartialEq, Eq)]
 pub enum Refusal {
     // An open on a pool of which tokens are out.
-    TokensOut,
+    TokensOut = 14,
     // A schedule buffer shorter than the tree needs.
-    ShortBuffer,
+    ShortBuffer = 15,
     // The build is finished.
-    Finished,
+    Finished = 16,
     // Of some byte fewer are out of the pool than the makes hold.
-    TokensMissing,
+    TokensMissing = 17,
     // The node is not a running job.
-    NotRunningJob,
+    NotRunningJob = 18,
 }
 
 impl Refusal {
@@ -21,12 +21,6 @@ impl Refusal {
     pub fn number(self) -> u32
         ensures result { result ≡ number self }
     {
-        match self {
-            Refusal::TokensOut => 14,
-            Refusal::ShortBuffer => 15,
-            Refusal::Finished => 16,
-            Refusal::TokensMissing => 17,
-            Refusal::NotRunningJob => 18,
-        }
+        self as u32
     }
 }
