@@ -47,6 +47,10 @@ back_fewer m (h ∷ hs) byte hs' e = either (eqb h.by m) e (λ b r is. back_fewe
         subst (λ (x : ℕ × List Held). Fewer (h ∷ hs) x.0 x.1) got first
     either false e less = fewer_kept h hs (goes_back m hs) byte hs' less e
 
+-- where none was given back, none is held
+pub gave_none : (m : ℕ) (hs hs' : List Held) → GaveBack m hs None hs' → (goes_back m hs ≡ None) × (hs' ≡ hs)
+gave_none m hs hs' none = none
+
 -- so no more are in hand
 pub gave_fewer : (m : ℕ) (hs : List Held) (r : Option ℕ) (hs' : List Held) → GaveBack m hs r hs' → length hs' ≤ length hs
 gave_fewer m hs None hs' none = omega (arith, ap length none.1)

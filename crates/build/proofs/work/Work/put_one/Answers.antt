@@ -4,7 +4,7 @@ use Rattle.rules.specs.Builds.{Build, with_tokens}
 use Rattle.build.specs.Hands.{Backed}
 use Rattle.build.specs.Models.{model, in_hand}
 use Rattle.build.specs.Rooms.{room}
-use Rattle.build.proofs.Returning.{back_fewer, back_out, backed_fewer, put_goes, put_none_leads, put_one_leads, gave_fewer}
+use Rattle.build.proofs.Returning.{back_fewer, back_out, gave_none, backed_fewer, put_goes, put_none_leads, put_one_leads, gave_fewer}
 use Rattle.build.proofs.Shown.{length_hand}
 use Rattle.build.proofs.work.Work.put_one.Goals as goal
 
@@ -26,7 +26,7 @@ returns-in_default g c =
     let w = g.P.Lender.ways in
     let e = c.args.self.now in
     let b = model e in
-    let none = c.in_default.ensures in
+    let none = gave_none c.args.m _ _ c.in_default.ensures in
     let same = none.1 in
     record {
       after = put_none_leads w b c.args.m _ _ _ e.written (omega (arith, c.requires.room)) none.0 (ap (with_tokens b) same);
