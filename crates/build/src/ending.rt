@@ -18,6 +18,7 @@ ghost use Rattle.schedule.specs.declared.record.Record.TheVariants.{Finished};
 ghost use Rattle.tree.specs.Questions.{nodes_of};
 
 use crate::asking::{is_make, make_of};
+use crate::end::End;
 use crate::losses::Losses;
 use crate::tokens::Tokens;
 use crate::work::Work;
@@ -27,43 +28,29 @@ use schedule::cause::Cause;
 use schedule::record::Record;
 use tree::Tree;
 
-// The record of a node that ended so.
-fn end_record(n: u32, how: Result<(), Cause>) -> Record
-    requires byte { n < 256 }
-    ensures { result ≡ ended_record how n }
-{
-    match how {
-        Ok(()) => Record::EndedWell { node: n as u8 },
-        Err(cause) => Record::EndedFailed {
-            node: n as u8,
-            cause: cause.number(),
-        },
-    }
-}
-
-// Notes, when node n ends so, the tokens of its make: for a job that fails.
-fn note_loss(tree: &Tree, tokens: &Tokens, n: u32, how: Result<(), Cause>, losses: &mut Losses)
+// Notes the tokens of the node's make, for a job that fails.
+fn note_loss(tree: &Tree, tokens: &Tokens, end: End, losses: &mut Losses)
     requires listed { vec_len losses.old.jobs < 200 }
     requires room { vec_len losses.old.bytes + vec_len tokens.now.held ≤ 40000 }
-    ensures after { noted_losses losses.new ≡ noted_at how n (plan_of (nodes_of tree.now)) (in_hand tokens.now) (noted_losses losses.old) }
+    ensures after { noted_losses losses.new ≡ noted_at end.how end.node (plan_of (nodes_of tree.now)) (in_hand tokens.now) (noted_losses losses.old) }
     ensures used { vec_len losses.new.bytes ≤ vec_len losses.old.bytes + vec_len tokens.now.held }
 {
-    if how.is_err() && !is_make(tree, n) {
-        losses.note(tokens, make_of(tree, n), n);
+    if end.how.is_err() && !is_make(tree, end.node) {
+        losses.note(tokens, make_of(tree, end.node), end.node);
     }
 }
 
 impl Work {
-    // Node n ends so: for a job that fails, the tokens of its make are noted.
-    fn end_one(&mut self, n: u32, how: Result<(), Cause>, buffer: &mut [u8])
-        requires node { n < (model self.old).plan.nodes }
-        requires runs { (at (model self.old) n).state ≡ Running }
+    // The node ends so: for a job that fails, the tokens of its make are noted.
+    fn end_one(&mut self, end: End, buffer: &mut [u8])
+        requires node { end.node < (model self.old).plan.nodes }
+        requires runs { (at (model self.old) end.node).state ≡ Running }
         requires room { reach self.old ≤ length buffer.old + 2 }
-        ensures after { Changed self.old buffer.old (ended_build how n (model self.old)) (ended_record how n) 5 self.new buffer.new }
+        ensures after { Changed self.old buffer.old (ended_build end.how end.node (model self.old)) (ended_record end.how end.node) 5 self.new buffer.new }
     {
-        self.nodes[n as usize].accept(Event::End(how));
-        note_loss(&self.tree, &self.tokens, n, how, &mut self.losses);
-        self.note(end_record(n, how), buffer);
+        self.nodes[end.node as usize].accept(Event::End(end.how));
+        note_loss(&self.tree, &self.tokens, end, &mut self.losses);
+        self.note(end.record(), buffer);
     }
 
     // The make puts back the token that it took last, if it holds any.
@@ -88,12 +75,12 @@ impl Work {
     }
 
     // The make of a node that ended so is marked, if it failed.
-    fn mark(&mut self, how: Result<(), Cause>, m: u32, n: u32)
+    fn mark(&mut self, m: u32, end: End)
         requires node { m < (model self.old).plan.nodes }
-        ensures after { Remade self.old (marked_build how m n (model self.old)) self.new }
+        ensures after { Remade self.old (marked_build end.how m end.node (model self.old)) self.new }
     {
-        if how.is_err() {
-            self.nodes[m as usize].mark(self.keep, n);
+        if end.how.is_err() {
+            self.nodes[m as usize].mark(self.keep, end.node);
         }
     }
 
@@ -121,52 +108,39 @@ impl Work {
         );
     }
 
-    // Node n ends so; its make puts a token back, if it holds any, and is marked if n failed.
-    fn end_child<P: Lender>(
-        &mut self,
-        n: u32,
-        m: u32,
-        how: Result<(), Cause>,
-        pool: &mut P,
-        buffer: &mut [u8],
-    )
+    // A child of make m ends so; the make puts a token back, if it holds any, and is marked if the child failed.
+    fn end_child<P: Lender>(&mut self, m: u32, end: End, pool: &mut P, buffer: &mut [u8])
         requires backed { Backed P.Lender.ways pool.old (in_hand self.old.tokens) }
-        requires nodes { (n < (model self.old).plan.nodes) × (m < (model self.old).plan.nodes) }
-        requires runs { (at (model self.old) n).state ≡ Running }
+        requires nodes { (end.node < (model self.old).plan.nodes) × (m < (model self.old).plan.nodes) }
+        requires runs { (at (model self.old) end.node).state ≡ Running }
         requires room { reach self.old ≤ length buffer.old + 2 }
-        ensures after { Leads P.Lender.ways (λ r. mark (state_of how) m n (put_one answering m (ends_so (state_of how) n r))) (λ r. r) (here self.old pool.old buffer.old) (here self.new pool.new buffer.new) }
+        ensures after { Leads P.Lender.ways (λ r. mark (state_of end.how) m end.node (put_one answering m (ends_so (state_of end.how) end.node r))) (λ r. r) (here self.old pool.old buffer.old) (here self.new pool.new buffer.new) }
         ensures kept { Kept P.Lender.ways self.old (reach self.old - 2) self.new pool.new }
     {
-        self.end_one(n, how, buffer);
+        self.end_one(end, buffer);
         self.put_one(m, pool, buffer);
-        self.mark(how, m, n);
+        self.mark(m, end);
     }
 
-    // Node n ends so, and what follows upwards: its make ends if it is over. The end of the top make is the finish.
-    pub(crate) fn end<P: Lender>(
-        &mut self,
-        n: u32,
-        how: Result<(), Cause>,
-        pool: &mut P,
-        buffer: &mut [u8],
-    )
+    // The node ends so, and what follows upwards: its make ends if it is over. The end of the top make is the finish.
+    pub(crate) fn end<P: Lender>(&mut self, end: End, pool: &mut P, buffer: &mut [u8])
         requires backed { Backed P.Lender.ways pool.old (in_hand self.old.tokens) }
-        requires node { n < (model self.old).plan.nodes }
-        requires runs { (at (model self.old) n).state ≡ Running }
+        requires node { end.node < (model self.old).plan.nodes }
+        requires runs { (at (model self.old) end.node).state ≡ Running }
         requires room { reach self.old ≤ length buffer.old + 2 }
-        ensures after { Leads P.Lender.ways (end_node answering (state_of how) n) (λ r. r) (here self.old pool.old buffer.old) (here self.new pool.new buffer.new) }
+        ensures after { Leads P.Lender.ways (end_node answering (state_of end.how) end.node) (λ r. r) (here self.old pool.old buffer.old) (here self.new pool.new buffer.new) }
         ensures kept { Kept P.Lender.ways self.old (reach self.old - 2) self.new pool.new }
     {
-        if n == 0 {
-            self.end_one(n, how, buffer);
+        if end.node == 0 {
+            self.end_one(end, buffer);
             self.finish(buffer);
             return;
         }
-        let m = make_of(&self.tree, n);
-        self.end_child(n, m, how, pool, buffer);
+        let m = make_of(&self.tree, end.node);
+        self.end_child(m, end, pool, buffer);
         if self.is_over(m) {
             let how = self.make_end(m);
-            self.end(m, how, pool, buffer);
+            self.end(End { node: m, how }, pool, buffer);
         }
     }
 }

@@ -13,6 +13,7 @@ ghost use Rattle.rules.specs.Calls.{end_all, stop, stop_all};
 ghost use Rattle.rules.specs.Plans.{all_makes, needed};
 
 use crate::asking::is_make;
+use crate::end::End;
 use crate::work::Work;
 use pool::Lender;
 use rules::Refusal;
@@ -48,7 +49,8 @@ impl Work {
     {
         for n in 0..self.tree.count() {
             if self.runs_as_job(n) {
-                self.end(n, Err(Cause::Halt), pool, buffer);
+                let how = Err(Cause::Halt);
+                self.end(End { node: n, how }, pool, buffer);
             }
         }
     }

@@ -4,6 +4,7 @@
 mod asking;
 mod builds;
 mod calls;
+mod end;
 mod ending;
 mod faults;
 mod halting;

@@ -17,6 +17,7 @@ ghost use Rattle.schedule.specs.declared.cause.Cause.TheVariants as causes;
 ghost use Rattle.schedule.specs.declared.record.Record.TheVariants as records;
 
 use crate::asking::{kind_of, steps_of};
+use crate::end::End;
 use crate::work::Work;
 use pool::Lender;
 use rules::Event;
@@ -61,7 +62,7 @@ impl Work {
         self.step_one(n, buffer);
         if self.progress(n).done == steps_of(&self.tree, n) {
             let how = last_end(kind_of(&self.tree, n));
-            self.end(n, how, pool, buffer);
+            self.end(End { node: n, how }, pool, buffer);
         }
     }
 
@@ -75,6 +76,7 @@ impl Work {
         ensures kept { Kept P.Lender.ways self.old (reach self.old) self.new pool.new }
     {
         self.note(Record::Kill { job: n as u8 }, buffer);
-        self.end(n, Err(Cause::Kill), pool, buffer);
+        let how = Err(Cause::Kill);
+        self.end(End { node: n, how }, pool, buffer);
     }
 }

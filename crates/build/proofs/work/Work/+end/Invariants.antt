@@ -1,4 +1,4 @@
 use Rattle.build.proofs.work.Work.+end.Given as goal
 
 abbrev pub decreases-end : goal.decreases-end
-decreases-end g l = l.n
+decreases-end g l = l.end.node

@@ -28,9 +28,9 @@ mark-requires g c =
 pub returns : goal.returns
 returns g c =
     let w = g.P.Lender.ways in
-    let n = c.args.n in
+    let n = c.args.end.node in
     let m = c.args.m in
-    let how = c.args.how in
+    let how = c.args.end.how in
     let change = c.end_one.ensures.after in
     let kept = c.put_one.ensures.kept in
     let remade = c.mark.ensures.after in

@@ -15,25 +15,25 @@ pub note_loss-requires : goal.note_loss-requires
 note_loss-requires c =
     let e = c.args.self.now in
     let so = fits c.args.self.now in
-    let one = one_to_end (model e) c.args.n (omega (arith, so.whole, c.requires.node)) c.requires.runs in
+    let one = one_to_end (model e) c.args.end.node (omega (arith, so.whole, c.requires.node)) c.requires.runs in
     let hand = length_hand e.tokens in
     record { listed = omega (arith, so.listed, noted_long e.losses); room = omega (arith, so.few, so.small, so.noted, hand, e.tokens.held.ok.0) }
 
 pub note-requires : goal.note-requires
 note-requires c =
     let e = c.args.self.now in
-    let n = c.args.n in
-    let how = c.args.how in
+    let n = c.args.end.node in
+    let how = c.args.end.how in
     let so = fits c.args.self.now in
     let falls = ended_room (model e) n (omega (arith, so.whole, c.requires.node)) (state_of how) (ended_over how) (ended_none how _) c.requires.runs in
-    record { room = omega (arith, c.requires.room, ap size c.end_record.ensures, ended_size how n) }
+    record { room = omega (arith, c.requires.room, ap size c.record.ensures, ended_size how n) }
 
 pub invariant_of-self : goal.invariant_of-self
 invariant_of-self c =
     let e = c.args.self.now in
     let b = model e in
-    let n = c.args.n in
-    let how = c.args.how in
+    let n = c.args.end.node in
+    let how = c.args.end.how in
     let runs = c.requires.runs in
     let place : n < length b.nodes = omega (arith, (fits e).whole, c.requires.node) in
     let node = after_end _ (at b n) c.accept.new.self how c.accept.ensures.after (read_at b n _ place c.index_mut.ensures.value) runs in
@@ -47,8 +47,8 @@ pub returns : goal.returns
 returns c =
     let e = c.args.self.now in
     let b = model e in
-    let n = c.args.n in
-    let how = c.args.how in
+    let n = c.args.end.node in
+    let how = c.args.end.how in
     let so = fits c.args.self.now in
     let runs = c.requires.runs in
     let place : n < length b.nodes = omega (arith, so.whole, c.requires.node) in
@@ -56,7 +56,7 @@ returns c =
     let after = ended_build how n b in
     let falls = ended_room b n place (state_of how) (ended_over how) (ended_none how _) runs in
     record {
-      after = subst (λ r. Changed e c.args.buffer.now after r 5 c.note.new.self c.note.new.buffer) c.end_record.ensures
+      after = subst (λ r. Changed e c.args.buffer.now after r 5 c.note.new.self c.note.new.buffer) c.record.ensures
           (changed_by e after 5 c.note.ensures.after refl (λ i. altered b n (node i) b.tokens (c.note_loss.ensures.after i))
-          (omega (arith, ap size c.end_record.ensures, ended_size how n)));
+          (omega (arith, ap size c.record.ensures, ended_size how n)));
     }

@@ -20,13 +20,13 @@ returns-then-is_err c =
     let e = c.args.self.now in
     let b = model e in
     let m = c.args.m in
-    let n = c.args.n in
+    let n = c.args.end.node in
     let so = fits c.args.self.now in
     let place : m < length b.nodes = omega (arith, so.whole, c.requires.node) in
     let x = marked e.keep n (at b m) in
     let node = c.mark.ensures.after ∙ ap (marked e.keep n) (read_at b m _ place c.index_mut.ensures.value) in
-    let how = sym (marked_err c.args.how m n b (sym c.if-is_err.ensures.value)) in
+    let how = sym (marked_err c.args.end.how m n b (sym c.if-is_err.ensures.value)) in
     record {
-      after = remade_by e _ (marked_build c.args.how m n b) refl (ap (with_node b m) node ∙ how)
+      after = remade_by e _ (marked_build c.args.end.how m n b) refl (ap (with_node b m) node ∙ how)
           (omega (arith, same_room b m place x refl refl, ap room how));
     }
