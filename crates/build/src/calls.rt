@@ -10,7 +10,7 @@ use crate::work::Work;
 use pool::Lender;
 use rules::Refusal;
 
-// Each is its check, what it does, settling and the count: a common function over what is done would say no less.
+// Each is its check, what it does, settling and the count; one function with a closure for the second would be no plainer.
 impl Work {
     // One step of a running job, and then settling. Answers the number of running jobs.
     pub(crate) fn step<P: Lender>(

@@ -9,8 +9,9 @@ use crate::tokens::Tokens;
 use rules::Progress;
 use tree::Tree;
 
-// Pool and buffer go from call to call beside it: each call is handed its own, and a build keeps neither. So what is asked of
-// all three, as that the buffer has room, and what is so of a node only while it runs, stands on the functions.
+// Pool and buffer go from call to call beside it: each call is handed its own, and a build keeps neither. A struct of the
+// three borrows would be no plainer: each method would have to say that it borrows the same three as before. So what is asked
+// of all three, as that the buffer has room, and what is so of a node only while it runs, stands on the functions.
 #[derive(Drop)]
 pub(crate) struct Work {
     pub(crate) tree: Tree,
