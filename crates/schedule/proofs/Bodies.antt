@@ -1,6 +1,7 @@
 -- A record that stands at a place, or why none does. Assumes nothing.
-use Rattle.std.proofs.Common.{◌≡◌, ℕ, ◌+◌, ◌-◌, ◌<◌, ◌≤◌, Bool, true, false, cond, leb, List, ◌∷◌, ◌++◌, length, get_or, take, drop, Some, None, Ok, Err, Option, Result, sym, refl, ap, ◌∙◌, arith, length-drop, le-leb, leb-true}
+use Rattle.std.proofs.Common.{◌≡◌, ℕ, ◌+◌, ◌-◌, ◌≤◌, Bor, Bool, true, false, cond, leb, List, ◌∷◌, ◌++◌, length, take, drop, Some, None, Ok, Err, Option, Result, sym, refl, ap, ◌∙◌, arith, length-drop, le-leb, leb-true}
 use Rattle.std.proofs.lemmas.List.{drop-drop, drop_all, length-take-le, take-append-drop, drop_more}
+use Rattle.std.specs.Slice.{IsItemAt}
 use Rattle.schedule.specs.declared.refusal.ReadRefusal.{ReadRefusal}
 use Rattle.schedule.specs.declared.refusal.ReadRefusal.TheVariants.{UnknownKind, CutShort}
 use Rattle.schedule.specs.declared.view.RecordView.{RecordView}
@@ -50,47 +51,55 @@ rest_of s place = drop (place + 1) s
 abbrev body_of : List ℕ → ℕ → ℕ → List ℕ
 body_of s place n = take (((place + 1) + n) - (place + 1)) (rest_of s place)
 
-module _ (s : List ℕ) (place : ℕ) (inside : place < length s) where
-  found_kind : found (drop place s) place ≡ found_of_kind (kind_of (get_or s place 0)) (rest_of s place) place
-  found_kind = ap (λ l. found l place) (drop_more s place 0 inside)
+-- the letter that was found at a place stands there, and the rest behind it
+pub starts_with : (s : List ℕ) (place : ℕ) (x : Bor ℕ) (letter : ℕ) → IsItemAt s place (Some x) → x.now ≡ letter → drop place s ≡ letter ∷ rest_of s place
+starts_with s place x letter found e =
+    drop_more s place 0 found.3.0 ∙ ap (λ l. l ∷ rest_of s place) (sym (found.4 (omega arith) 0) ∙ e)
+
+module _ (s : List ℕ) (place letter : ℕ) (starts : drop place s ≡ letter ∷ rest_of s place) where
+  found_kind : found (drop place s) place ≡ found_of_kind (kind_of letter) (rest_of s place) place
+  found_kind = ap (λ l. found l place) starts
 
   left : length s - (place + 1) ≡ length (rest_of s place)
   left = sym (length-drop (place + 1) s)
 
-  pub found_none : (e : ReadRefusal) → Err e ≡ body_length (get_or s place 0) (length s - (place + 1)) place → Err e ≡ found (drop place s) place
-  found_none e r = sym (found_kind ∙ found_refused (kind_of (get_or s place 0)) (rest_of s place) place e (rw left at (sym r)))
+  pub found_unknown : kind_of letter ≡ None → Err (UnknownKind place) ≡ found (drop place s) place
+  found_unknown e = sym (found_kind ∙ rw e refl)
 
-  -- a whole body stands behind the kind byte, and v shows it
+  pub found_none : (e : ReadRefusal) → Err e ≡ body_length letter (length s - (place + 1)) place → Err e ≡ found (drop place s) place
+  found_none e r = sym (found_kind ∙ found_refused (kind_of letter) (rest_of s place) place e (rw left at (sym r)))
+
+  -- a whole body stands behind the letter, and v shows it
   pub record Taken (n : ℕ) (v : RecordView) : Type 0 where
     pub here : ◌≡◌ {A = Found} (Ok (Some (place, viewed v))) (found (drop place s) place)
     pub on : (place + 1) + n ≡ place + size (viewed v)
     pub part : drop place s ≡ span v ++ drop ((place + 1) + n) s
     pub law : division (drop place s) place ≡ begun (Ok (Some (place, viewed v))) (λ _. division (drop ((place + 1) + n) s) ((place + 1) + n))
 
-  pub fitting : (n : ℕ) → body_length (get_or s place 0) (length s - (place + 1)) place ≡ Ok n → Whole (kind_of (get_or s place 0)) n (length (rest_of s place))
-  fitting n e = whole (kind_of (get_or s place 0)) (length (rest_of s place)) place n (rw left at e)
+  fitting : (n : ℕ) → Ok n ≡ body_length letter (length s - (place + 1)) place → Whole (kind_of letter) n (length (rest_of s place))
+  fitting n e = whole (kind_of letter) (length (rest_of s place)) place n (rw left at (sym e))
 
-  pub body_is : (n : ℕ) → (body_of s place n) ≡ take n (rest_of s place)
+  body_is : (n : ℕ) → (body_of s place n) ≡ take n (rest_of s place)
   body_is n = let e : ((place + 1) + n) - (place + 1) ≡ n = omega arith in rw e refl
 
-  pub taken : (n : ℕ) (v : RecordView) → body_length (get_or s place 0) (length s - (place + 1)) place ≡ Ok n → span v ≡ get_or s place 0 ∷ (body_of s place n) → Some (viewed v) ≡ record_of (get_or s place 0) (body_of s place n) → Taken n v
+  pub taken : (n : ℕ) (v : RecordView) → Ok n ≡ body_length letter (length s - (place + 1)) place → span v ≡ letter ∷ (body_of s place n) → Some (viewed v) ≡ record_of letter (body_of s place n) → Taken n v
   taken n v e part value =
       let w = fitting n e in
       let k = w.known in
       let short = body_is n in
       let long = length-take-le n (rest_of s place) w.there in
       let made : viewed v ≡ k.filled (take n (rest_of s place)) = let told = rw (w.is, short) at value in cc in
-      let taken-size = ap length (bytes_made (get_or s place 0) k w.is (take n (rest_of s place)) (long ∙ sym w.long)) in
+      let taken-size = ap length (bytes_made letter k w.is (take n (rest_of s place)) (long ∙ sym w.long)) in
       let here : ◌≡◌ {A = Found} (Ok (Some (place, viewed v))) (found (drop place s) place) = sym (found_kind ∙ found_whole (rest_of s place) place w ∙ rw (sym made) refl) in
       let on : (place + 1) + n ≡ place + size (viewed v) = rw made (omega (arith, taken-size, long)) in
       record {
         here = here;
         on = on;
-        part = drop_more s place 0 inside ∙ rw (part, short) (ap (λ l. get_or s place 0 ∷ l) (sym (take-append-drop n (rest_of s place)) ∙ rw (drop-drop n (place + 1) s) refl));
+        part = starts ∙ rw (part, short) (ap (λ l. letter ∷ l) (sym (take-append-drop n (rest_of s place)) ∙ rw (drop-drop n (place + 1) s) refl));
         law = reading_on s place (Ok (Some (place, viewed v))) here ∙ rw on refl;
       }
 
-  pub body_fits : (n : ℕ) → body_length (get_or s place 0) (length s - (place + 1)) place ≡ Ok n → body_length (get_or s place 0) (length (body_of s place n)) 0 ≡ Ok (length (body_of s place n))
+  pub body_fits : (n : ℕ) → Ok n ≡ body_length letter (length s - (place + 1)) place → body_length letter (length (body_of s place n)) 0 ≡ Ok (length (body_of s place n))
   body_fits n e =
       let w = fitting n e in
       let long = ap length (body_is n) ∙ length-take-le n (rest_of s place) w.there in

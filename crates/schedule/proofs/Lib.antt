@@ -3,6 +3,7 @@ pub mod Buffers
 pub mod Digits
 pub mod Divisions
 pub mod Encodings
+pub mod Fits
 pub mod RoundTrip
 pub mod Spans
 pub mod Table

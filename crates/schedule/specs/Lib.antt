@@ -1,5 +1,6 @@
 pub mod Causes
 pub mod Records
+pub mod Kinds
 pub mod Refusals
 pub mod Reading
 pub mod Views

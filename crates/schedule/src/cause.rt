@@ -1,13 +1,13 @@
-// Why a node ended as failed.
+// Why a node ended as failed, each cause by the number that stands for it in a record.
 ghost use Rattle.std.specs.Prelude.{◌≡◌};
 ghost use Rattle.schedule.specs.Causes.{cause_number};
 
 #[derive(Clone, Copy, PartialEq, Eq, Debug)]
 pub enum Cause {
-    Script,
-    Kill,
-    FailedChild,
-    Halt,
+    Script = 1,
+    Kill = 2,
+    FailedChild = 3,
+    Halt = 4,
 }
 
 impl Cause {
@@ -15,11 +15,6 @@ impl Cause {
     pub fn number(self) -> u8
         ensures result { result ≡ cause_number self }
     {
-        match self {
-            Cause::Script => 1,
-            Cause::Kill => 2,
-            Cause::FailedChild => 3,
-            Cause::Halt => 4,
-        }
+        self as u8
     }
 }

@@ -2,6 +2,7 @@
 #![tactic(auto)]
 
 pub mod cause;
+mod kind;
 pub mod length;
 pub mod line;
 pub mod reader;

@@ -3,7 +3,7 @@ ghost use Rattle.std.specs.Prelude.{◌≡◌, ◌++◌, Ok, Err, MatchResult};
 ghost use Rattle.schedule.specs.Reading.{found, behind, begun, division, Faithful};
 ghost use Rattle.schedule.specs.Views.{shown, ahead, left_of, handed, span, Reads};
 
-use crate::length::body_length;
+use crate::kind::Kind;
 use crate::refusal::ReadRefusal;
 use crate::view::{Placed, view};
 
@@ -19,18 +19,11 @@ impl<'a> ScheduleReader<'a> {
         ensures records { left_of result ≡ division schedule.now 0 }
         ensures law { Faithful schedule.now (left_of result) }
     {
-        Self::from_place(schedule, 0)
+        ScheduleReader { schedule, place: 0 }
     }
 
-    // A reader that begins at a place.
-    fn from_place(schedule: &'a [u8], place: usize) -> Self
-        ensures result { result ≡ record { schedule = schedule.entry; place = place } }
-        ensures law { Faithful schedule.now (division schedule.now 0) }
-    {
-        ScheduleReader { schedule, place }
-    }
-
-    // The next record with its place, none at the end, or a refusal.
+    // The next record with its place, none at the end, or a refusal. No `Iterator` has it: a reader that has refused
+    // refuses again, so that a loop over its items would not end.
     pub fn next(&mut self) -> Result<Option<Placed<'a>>, ReadRefusal>
         ensures result { shown result ≡ found (ahead self.old) self.old.place }
         ensures after { self.new ≡ record { schedule = self.old.schedule; place = behind self.old.place (shown result) } }
@@ -48,12 +41,12 @@ impl<'a> ScheduleReader<'a> {
     {
         let schedule = self.schedule;
         let place = self.place;
-        if place >= schedule.len() {
+        let Some(&letter) = schedule.get(place) else {
             return Ok((None, place));
-        }
-        let kind = schedule[place];
+        };
         let start = place + 1;
-        let length = body_length(kind, schedule.len() - start, place)?;
+        let kind = Kind::at(letter, place)?;
+        let length = kind.body_length(schedule.len() - start, place)?;
         let end = start + length;
         let record = view(kind, &schedule[start..end]);
         Ok((Some(Placed { place, record }), end))

@@ -1,6 +1,10 @@
-// A record by value: what happened, with its fields.
+// A record by value: what happened, with its fields. A field is any byte, since a reader hands out whatever stands in a
+// schedule: so `keep`, `cause` and `failed` are bytes, and no `bool` or `Cause`.
 ghost use Rattle.std.specs.Prelude.{◌≡◌};
+ghost use Rattle.schedule.specs.Kinds.{letter_of, HasLetter};
 ghost use Rattle.schedule.specs.Records.{size};
+
+use crate::kind::Kind;
 
 #[derive(Clone, Copy, PartialEq, Eq, Debug)]
 pub enum Record {
@@ -17,18 +21,28 @@ pub enum Record {
 }
 
 impl Record {
+    // The record's kind.
+    pub(crate) fn kind(self) -> Kind
+        ensures letter { HasLetter self (letter_of result) }
+    {
+        match self {
+            Record::Open { .. } => Kind::Open,
+            Record::StartInSlot { .. } => Kind::StartInSlot,
+            Record::StartWithToken { .. } => Kind::StartWithToken,
+            Record::Step { .. } => Kind::Step,
+            Record::Kill { .. } => Kind::Kill,
+            Record::Halt => Kind::Halt,
+            Record::EndedWell { .. } => Kind::EndedWell,
+            Record::EndedFailed { .. } => Kind::EndedFailed,
+            Record::PutBack { .. } => Kind::PutBack,
+            Record::Finished { .. } => Kind::Finished,
+        }
+    }
+
     // How many bytes the record takes in a schedule.
     pub fn size(self) -> usize
         ensures result { result ≡ size self }
     {
-        match self {
-            Record::Halt => 1,
-            Record::Step { .. }
-            | Record::Kill { .. }
-            | Record::EndedWell { .. }
-            | Record::Finished { .. } => 2,
-            Record::StartInSlot { .. } | Record::EndedFailed { .. } | Record::PutBack { .. } => 3,
-            Record::Open { .. } | Record::StartWithToken { .. } => 4,
-        }
+        1 + self.kind().follow()
     }
 }

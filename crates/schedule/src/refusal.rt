@@ -18,8 +18,8 @@ impl ReadRefusal {
         ensures result { result ≡ read_number self }
     {
         match self {
-            ReadRefusal::UnknownKind { place: _ } => 19,
-            ReadRefusal::CutShort { place: _ } => 20,
+            ReadRefusal::UnknownKind { .. } => 19,
+            ReadRefusal::CutShort { .. } => 20,
         }
     }
 
@@ -28,8 +28,7 @@ impl ReadRefusal {
         ensures result { result ≡ read_place self }
     {
         match self {
-            ReadRefusal::UnknownKind { place } => place,
-            ReadRefusal::CutShort { place } => place,
+            ReadRefusal::UnknownKind { place } | ReadRefusal::CutShort { place } => place,
         }
     }
 }

@@ -1,8 +1,10 @@
 // A record as the reader hands it out: by kind, with its body as a part of the schedule.
 ghost use Rattle.std.specs.Prelude.{◌≡◌, ◌∷◌, length, Some, Ok};
+ghost use Rattle.schedule.specs.Kinds.{letter_of};
 ghost use Rattle.schedule.specs.Reading.{body_length, record_of};
 ghost use Rattle.schedule.specs.Views.{span, viewed};
 
+use crate::kind::Kind;
 use crate::record::Record;
 
 #[derive(Clone, Copy, Debug)]
@@ -31,55 +33,47 @@ impl RecordView<'_> {
     pub fn record(&self) -> Record
         ensures result { result ≡ viewed self.now }
     {
-        match self {
-            RecordView::Open(body) => Record::Open {
-                limit: body[0],
-                keep: body[1],
-                nodes: body[2],
-            },
-            RecordView::StartInSlot(body) => Record::StartInSlot {
-                make: body[0],
-                child: body[1],
-            },
-            RecordView::StartWithToken(body) => Record::StartWithToken {
-                make: body[0],
-                child: body[1],
-                token: body[2],
-            },
-            RecordView::Step(body) => Record::Step { job: body[0] },
-            RecordView::Kill(body) => Record::Kill { job: body[0] },
-            RecordView::Halt(_) => Record::Halt,
-            RecordView::EndedWell(body) => Record::EndedWell { node: body[0] },
-            RecordView::EndedFailed(body) => Record::EndedFailed {
-                node: body[0],
-                cause: body[1],
-            },
-            RecordView::PutBack(body) => Record::PutBack {
-                make: body[0],
-                token: body[1],
-            },
-            RecordView::Finished(body) => Record::Finished { failed: body[0] },
+        Record::from(*self)
+    }
+}
+
+impl From<RecordView<'_>> for Record {
+    ghost from_gives = { λ view result. result ≡ viewed view };
+
+    fn from(view: RecordView<'_>) -> Record {
+        match view {
+            RecordView::Open(&[limit, keep, nodes]) => Record::Open { limit, keep, nodes },
+            RecordView::StartInSlot(&[make, child]) => Record::StartInSlot { make, child },
+            RecordView::StartWithToken(&[make, child, token]) => {
+                Record::StartWithToken { make, child, token }
+            }
+            RecordView::Step(&[job]) => Record::Step { job },
+            RecordView::Kill(&[job]) => Record::Kill { job },
+            RecordView::Halt([]) => Record::Halt,
+            RecordView::EndedWell(&[node]) => Record::EndedWell { node },
+            RecordView::EndedFailed(&[node, cause]) => Record::EndedFailed { node, cause },
+            RecordView::PutBack(&[make, token]) => Record::PutBack { make, token },
+            RecordView::Finished(&[failed]) => Record::Finished { failed },
         }
     }
 }
 
-// The view of a kind byte and its whole body.
-pub(crate) fn view<'a>(kind: u8, body: &'a [u8]) -> RecordView<'a>
-    requires { body_length kind (length body.now) 0 ≡ Ok (length body.now) }
-    ensures records { span result ≡ kind ∷ body.now }
-    ensures result { Some (viewed result) ≡ record_of kind body.now }
+// The view of a kind and its whole body.
+pub(crate) fn view<'a>(kind: Kind, body: &'a [u8]) -> RecordView<'a>
+    requires { body_length (letter_of kind) (length body.now) 0 ≡ Ok (length body.now) }
+    ensures records { span result ≡ letter_of kind ∷ body.now }
+    ensures result { Some (viewed result) ≡ record_of (letter_of kind) body.now }
 {
     match kind {
-        b'O' => RecordView::Open(<&[u8; 3]>::try_from(body).unwrap()),
-        b'A' => RecordView::StartInSlot(<&[u8; 2]>::try_from(body).unwrap()),
-        b'T' => RecordView::StartWithToken(<&[u8; 3]>::try_from(body).unwrap()),
-        b'S' => RecordView::Step(<&[u8; 1]>::try_from(body).unwrap()),
-        b'K' => RecordView::Kill(<&[u8; 1]>::try_from(body).unwrap()),
-        b'H' => RecordView::Halt(<&[u8; 0]>::try_from(body).unwrap()),
-        b'E' => RecordView::EndedWell(<&[u8; 1]>::try_from(body).unwrap()),
-        b'F' => RecordView::EndedFailed(<&[u8; 2]>::try_from(body).unwrap()),
-        b'R' => RecordView::PutBack(<&[u8; 2]>::try_from(body).unwrap()),
-        b'D' => RecordView::Finished(<&[u8; 1]>::try_from(body).unwrap()),
-        _ => unreachable(),
+        Kind::Open => RecordView::Open(body.try_into().unwrap()),
+        Kind::StartInSlot => RecordView::StartInSlot(body.try_into().unwrap()),
+        Kind::StartWithToken => RecordView::StartWithToken(body.try_into().unwrap()),
+        Kind::Step => RecordView::Step(body.try_into().unwrap()),
+        Kind::Kill => RecordView::Kill(body.try_into().unwrap()),
+        Kind::Halt => RecordView::Halt(body.try_into().unwrap()),
+        Kind::EndedWell => RecordView::EndedWell(body.try_into().unwrap()),
+        Kind::EndedFailed => RecordView::EndedFailed(body.try_into().unwrap()),
+        Kind::PutBack => RecordView::PutBack(body.try_into().unwrap()),
+        Kind::Finished => RecordView::Finished(body.try_into().unwrap()),
     }
 }

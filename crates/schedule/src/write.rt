@@ -14,19 +14,22 @@ impl Record {
         requires { length out.old ≡ size self }
         ensures { out.new ≡ bytes self }
     {
+        let letter = self.kind().letter();
         match self {
-            Record::Open { limit, keep, nodes } => out.copy_from_slice(&[b'O', limit, keep, nodes]),
-            Record::StartInSlot { make, child } => out.copy_from_slice(&[b'A', make, child]),
-            Record::StartWithToken { make, child, token } => out.copy_from_slice(&[
-                b'T', make, child, token,
-            ]),
-            Record::Step { job } => out.copy_from_slice(&[b'S', job]),
-            Record::Kill { job } => out.copy_from_slice(&[b'K', job]),
-            Record::Halt => out.copy_from_slice(&[b'H']),
-            Record::EndedWell { node } => out.copy_from_slice(&[b'E', node]),
-            Record::EndedFailed { node, cause } => out.copy_from_slice(&[b'F', node, cause]),
-            Record::PutBack { make, token } => out.copy_from_slice(&[b'R', make, token]),
-            Record::Finished { failed } => out.copy_from_slice(&[b'D', failed]),
+            Record::Halt => out.copy_from_slice(&[letter]),
+            Record::Step { job: field }
+            | Record::Kill { job: field }
+            | Record::EndedWell { node: field }
+            | Record::Finished { failed: field } => out.copy_from_slice(&[letter, field]),
+            Record::StartInSlot { make, child } => out.copy_from_slice(&[letter, make, child]),
+            Record::EndedFailed { node, cause } => out.copy_from_slice(&[letter, node, cause]),
+            Record::PutBack { make, token } => out.copy_from_slice(&[letter, make, token]),
+            Record::Open { limit, keep, nodes } => {
+                out.copy_from_slice(&[letter, limit, keep, nodes])
+            }
+            Record::StartWithToken { make, child, token } => {
+                out.copy_from_slice(&[letter, make, child, token])
+            }
         }
     }
 
@@ -59,15 +62,10 @@ impl Record {
 fn fit(records: &[Record], room: usize) -> bool
     ensures { result ≡ nat_le (length (encoded records.now)) room }
 {
-    let mut left = room;
-    for record in records {
-        let size = record.size();
-        if left < size {
-            return false;
-        }
-        left -= size;
-    }
-    true
+    records
+        .iter()
+        .try_fold(room, |left, record| left.checked_sub(record.size()))
+        .is_some()
 }
 
 // Writes records one behind the other at a place where they have room, and answers the place behind them.

@@ -5,7 +5,7 @@ use Rattle.schedule.proofs.Digits.{spaced_more}
 use Rattle.schedule.proofs.line.put_line.Goals as goal
 
 pub loop-field-init : goal.loop-field-init
-loop-field-init c = let wrote = c.put_letter-at.ensures in (wrote_none _ _ (omega (arith, wrote.room, wrote_length wrote)), omega arith)
+loop-field-init c = let wrote = c.put-at.ensures in (wrote_none _ _ (omega (arith, wrote.room, wrote_length wrote)), omega arith)
 
 pub loop-field-preserved : goal.loop-field-preserved
 loop-field-preserved c =
@@ -15,4 +15,4 @@ loop-field-preserved c =
 pub returns : goal.returns
 returns c =
     let fields = rw (take_all c.loop-field.field-index c.args.fields.now c.loop-field-test.false) at c.loop-field.invariant.0 in
-    wrote_both (wrote_both c.put_letter-at.ensures fields) c.put.ensures
+    wrote_both (wrote_both c.put-at.ensures fields) c.put.ensures

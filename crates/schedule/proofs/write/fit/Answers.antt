@@ -1,23 +1,8 @@
-use Rattle.std.proofs.Common.{◌<◌, length, sym, ap, arith, le-leb}
-use borrow.Author.Tests.{lt-leb}
-use Rattle.std.proofs.lemmas.List.{drop_all}
-use Rattle.schedule.specs.declared.record.Record.TheVariants.{Open}
+use Rattle.std.proofs.Common.{rules, ap, ◌∙◌, length, leb}
 use Rattle.schedule.specs.Records.{encoded}
-use Rattle.schedule.proofs.Encodings.{encoded_left}
+use Rattle.schedule.proofs.Fits.{fits}
 use Rattle.schedule.proofs.write.fit.Goals as goal
-
-pub returns-then-left-size : goal.returns-then-left-size
-returns-then-left-size c =
-    let next = encoded_left c.args.records.now c.loop-record.record-index (Open 0 0 0) c.loop-record-test.true in
-    let over : c.args.room < length (encoded c.args.records.now) = omega (arith, next, c.size-size.ensures.result) in
-    sym (lt-leb (length (encoded c.args.records.now)) c.args.room over)
-
-pub loop-record-preserved : goal.loop-record-preserved
-loop-record-preserved c =
-    let next = encoded_left c.args.records.now c.loop-record.record-index (Open 0 0 0) c.loop-record-test.true in
-    omega (arith, next, c.size-size.ensures.result)
 
 pub returns : goal.returns
 returns c =
-    let none = ap (λ l. length (encoded l)) (drop_all c.loop-record.record-index c.args.records.now c.loop-record-test.false) in
-    sym (le-leb (length (encoded c.args.records.now)) c.args.room (omega (arith, none)))
+    c.is_some.ensures ∙ fits _ _ (λ f room x v h called. search rules) c.iter.result _ _ _ _ c.try_fold.ensures.ran ∙ ap (λ rs. leb (length (encoded rs)) c.args.room) c.iter.ensures.rest
