@@ -19,12 +19,12 @@ pub record Whole (kind : Option Kind) (n left : ℕ) : Type 0 where
   pub there : n ≤ left
 
 pub whole : (kind : Option Kind) (left place n : ℕ) → length_of_kind kind left place ≡ Ok n → Whole kind n left
-whole None left place n e = absurd (let z : ◌≡◌ {A = ℕ} 0 1 = cc in omega arith)
+whole None left place n e = cc
 whole (Some k) left place n e = split (leb k.follow left) refl e
   where
     split : (b : Bool) → leb k.follow left ≡ b → ◌≡◌ {A = Result ℕ ReadRefusal} (cond b (Ok k.follow) (Err (CutShort place))) (Ok n) → Whole (Some k) n left
     split true t e = let same : k.follow ≡ n = cc in record { known = k; is = refl; long = same; there = omega (arith, leb-true k.follow left t) }
-    split false t e = absurd (let z : ◌≡◌ {A = ℕ} 0 1 = cc in omega arith)
+    split false t e = cc
 
 pub found_whole : {kind : Option Kind} (rest : List ℕ) (place : ℕ) {n : ℕ} → (w : Whole kind n (length rest)) → found_of_kind kind rest place ≡ Ok (Some (place, w.known.filled (take n rest)))
 found_whole rest place w =
@@ -33,12 +33,12 @@ found_whole rest place w =
     rw (w.is, le-leb k.follow (length rest) fits, w.long) refl
 
 pub found_refused : (kind : Option Kind) (rest : List ℕ) (place : ℕ) (e : ReadRefusal) → length_of_kind kind (length rest) place ≡ Err e → found_of_kind kind rest place ≡ Err e
-found_refused None rest place e r = let same : UnknownKind place ≡ e = cc in ap (λ x. Err x) same
+found_refused None rest place e r = cc
 found_refused (Some k) rest place e r = split (leb k.follow (length rest)) r
   where
     split : (b : Bool) → ◌≡◌ {A = Result ℕ ReadRefusal} (cond b (Ok k.follow) (Err (CutShort place))) (Err e) → ◌≡◌ {A = Found} (cond b (Ok (Some (place, k.filled (take k.follow rest)))) (Err (CutShort place))) (Err e)
-    split true r = absurd (let z : ◌≡◌ {A = ℕ} 0 1 = cc in omega arith)
-    split false r = let same : CutShort place ≡ e = cc in ap (λ x. Err x) same
+    split true r = cc
+    split false r = cc
 
 pub found_end : (s : List ℕ) (place : ℕ) → length s ≤ place → Ok None ≡ found (drop place s) place
 found_end s place h = rw (drop_all place s h) refl

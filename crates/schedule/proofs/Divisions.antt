@@ -11,7 +11,7 @@ pub size_some : (r : Record) → 0 < size r
 size_some r = some (bytes r) (found_written r [] 0)
   where
     some : (bs : List ℕ) → found (bs ++ []) 0 ≡ Ok (Some (0, r)) → 0 < length bs
-    some [] e = absurd (let z : ◌≡◌ {A = ℕ} 0 1 = cc in omega arith)
+    some [] e = cc
     some (b ∷ bs) e = omega arith
 
 pub shorter : (r : Record) (bs : List ℕ) (n : ℕ) → length bs ≤ suc n → length (drop (size r) bs) ≤ n

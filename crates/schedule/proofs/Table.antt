@@ -1,13 +1,10 @@
 -- The table of kinds against the bytes of records. Assumes nothing.
-use Rattle.std.proofs.Common.{◌≡◌, ℕ, ◌≤◌, Bool, true, false, cond, eqb, leb, List, [], ◌∷◌, ◌++◌, length, get_or, Some, None, Ok, Option, sym, refl, ap, ◌∙◌, subst, arith, eqb-true, le-leb}
+use Rattle.std.proofs.Common.{◌≡◌, ℕ, ◌≤◌, Bool, true, false, cond, eqb, leb, List, [], ◌∷◌, ◌++◌, length, get_or, Some, Ok, sym, refl, ap, ◌∙◌, subst, arith, eqb-true, le-leb}
 use Rattle.std.specs.List.{AllByRecursion}
 use Rattle.schedule.specs.declared.record.Record.{Record}
 use Rattle.schedule.specs.declared.record.Record.TheVariants.{Open, StartInSlot, StartWithToken, Step, Kill, Halt, EndedWell, EndedFailed, PutBack, Finished}
 use Rattle.schedule.specs.Records.{Kind, kinds, with_letter, kind_of, bytes}
 use Rattle.schedule.specs.Reading.{found}
-
-none_some : {A : Type 0} {x : A} → ◌≡◌ {A = Option A} None (Some x) → ⊥
-none_some e = let z : ◌≡◌ {A = ℕ} 0 1 = cc in omega arith
 
 -- enough bytes follow
 enough : {A : Type 0} (n : ℕ) (rest : List ℕ) (x y : A) → n ≤ length rest → cond (leb n (length rest)) x y ≡ x
@@ -54,7 +51,7 @@ all_agree = (three, (two, (three, (one, (one, (none, (one, (two, (two, (one, tt)
 
 -- a law of some kinds holds of the one that has a letter
 at_letter : (P : Kind → Type 0) (ks : List Kind) → AllByRecursion P ks → (byte : ℕ) (k : Kind) → with_letter byte ks ≡ Some k → (byte ≡ k.letter) × P k
-at_letter P [] all byte k e = absurd (none_some e)
+at_letter P [] all byte k e = cc
 at_letter P (x ∷ ks) all byte k e = split (eqb byte x.letter) refl e (at_letter P ks all.1 byte k)
   where
     split : (b : Bool) → eqb byte x.letter ≡ b → cond b (Some x) (with_letter byte ks) ≡ Some k → (with_letter byte ks ≡ Some k → (byte ≡ k.letter) × P k) → (byte ≡ k.letter) × P k

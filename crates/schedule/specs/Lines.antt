@@ -1,13 +1,13 @@
 -- The line of a record. Assumes nothing.
 use Rattle.std.specs.Prelude.{ℕ, cond, List, [], ◌∷◌, ◌++◌, length, Ok, Err, decimal, Result, nat_le}
+use Rattle.std.specs.List.{flat_map}
 use Rattle.schedule.specs.declared.record.Record.{Record}
 use Rattle.schedule.specs.declared.refusal.ShortBuffer.{ShortBuffer}
 use Rattle.schedule.specs.Records.{bytes}
 
 -- fields in decimal, each behind a space
 abbrev pub spaced : List ℕ → List ℕ
-spaced [] = []
-spaced (field ∷ fields) = (32 ∷ decimal field) ++ spaced fields
+spaced fields = flat_map (λ field. 32 ∷ decimal field) fields
 
 -- the line of a record's bytes: the kind byte as its letter, the fields, and the end of the line
 abbrev pub line_of : List ℕ → List ℕ

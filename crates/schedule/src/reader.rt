@@ -14,6 +14,7 @@ pub struct ScheduleReader<'a> {
 }
 
 impl<'a> ScheduleReader<'a> {
+    #[tactic(auto, using(crate::proofs::RoundTrip::faithful))]
     pub fn new(schedule: &'a [u8]) -> Self
         ensures result { result ≡ record { schedule = schedule.entry; place = 0 } }
         ensures records { left_of result ≡ division schedule.now 0 }
