@@ -11,6 +11,7 @@ pub const LINE_ROOM: usize = 24;
 
 // Writes some bytes at a place where they have room, and answers the place behind them. Buffer and place go one by one:
 // each call on a struct of both would have to promise, too, that it keeps the reference to the buffer.
+#[tactic(auto, using(crate::proofs::Buffers::wrote_part))]
 fn put(buffer: &mut [u8], place: usize, added: &[u8]) -> usize
     requires { place + length added.now ≤ length buffer.old }
     ensures { Wrote buffer.old place added.now buffer.new result }
@@ -22,6 +23,7 @@ fn put(buffer: &mut [u8], place: usize, added: &[u8]) -> usize
 
 // Writes a space and a field in decimal. No call of std prints into a buffer and is sure to succeed, so the digits are
 // made here.
+#[tactic(auto, using(crate::proofs::Digits::one_digit, crate::proofs::Digits::two_digits, crate::proofs::Digits::three_digits))]
 fn put_field(buffer: &mut [u8], place: usize, field: u8) -> usize
     requires { place + 4 ≤ length buffer.old }
     ensures after { Wrote buffer.old place (32 ∷ decimal field) buffer.new result }

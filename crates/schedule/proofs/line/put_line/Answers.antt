@@ -1,11 +1,8 @@
 use Rattle.std.proofs.Common.{arith}
 use Rattle.std.proofs.lemmas.List.{take_all}
-use Rattle.schedule.proofs.Buffers.{wrote_none, wrote_both, wrote_length}
+use Rattle.schedule.proofs.Buffers.{wrote_both}
 use Rattle.schedule.proofs.Digits.{spaced_more}
 use Rattle.schedule.proofs.line.put_line.Goals as goal
-
-pub loop-field-init : goal.loop-field-init
-loop-field-init c = let wrote = c.put-at.ensures in (wrote_none _ _ (omega (arith, wrote.room, wrote_length wrote)), omega arith)
 
 pub loop-field-preserved : goal.loop-field-preserved
 loop-field-preserved c =

@@ -2,13 +2,10 @@ use Rattle.std.proofs.Common.{ap, ◌∙◌, arith}
 use Rattle.std.proofs.lemmas.List.{take_all}
 use Rattle.schedule.specs.Reading.{division}
 use Rattle.schedule.specs.declared.record.Record.TheVariants.{Open}
-use Rattle.schedule.proofs.Buffers.{wrote_none, wrote_both, wrote_between}
+use Rattle.schedule.proofs.Buffers.{wrote_both, wrote_between}
 use Rattle.schedule.proofs.Divisions.{division_encoded}
 use Rattle.schedule.proofs.Encodings.{encoded_more, encoded_left, encoded_split}
 use Rattle.schedule.proofs.write.put_records.Goals as goal
-
-pub loop-record-init : goal.loop-record-init
-loop-record-init c = wrote_none c.args.buffer.now c.args.place (omega arith)
 
 pub put-at-requires : goal.put-at-requires
 put-at-requires c =
