@@ -108,9 +108,7 @@ static ROWS: [Row; 14] = [
 const BLANK: u8 = 7;
 
 fn blank(rt: &impl Abort, bytes: &[u8]) {
-    for byte in bytes {
-        assert_eq!(rt; *byte, BLANK);
-    }
+    assert!(rt; bytes.iter().all(|byte| *byte == BLANK));
 }
 
 fn reads(rt: &impl Abort, row: &Row) -> Result<(), Fail> {
@@ -123,23 +121,18 @@ fn reads(rt: &impl Abort, row: &Row) -> Result<(), Fail> {
 }
 
 // Each front of the bytes that has the kind byte and not the whole body.
-fn reads_no_cut(rt: &impl Abort, row: &Row) -> Result<(), Fail> {
+fn reads_no_cut(rt: &impl Abort, row: &Row) {
     for length in 1..row.bytes.len() {
         let mut reader = ScheduleReader::new(&row.bytes[0..length]);
-        refuses(rt, &mut reader, ReadRefusal::CutShort { place: 0 })?;
+        refuses(rt, &mut reader, ReadRefusal::CutShort { place: 0 });
     }
-    Ok(())
 }
 
 // A refused reader is unaltered, so that it refuses again.
-fn refuses(rt: &impl Abort, reader: &mut ScheduleReader, refusal: ReadRefusal) -> Result<(), Fail> {
+fn refuses(rt: &impl Abort, reader: &mut ScheduleReader, refusal: ReadRefusal) {
     for _ in 0..2 {
-        match reader.next() {
-            Ok(_) => return Err(Fail::new("not refused")),
-            Err(found) => assert_eq!(rt; found, refusal),
-        }
+        assert_eq!(rt; reader.next().err(), Some(refusal));
     }
-    Ok(())
 }
 
 fn writes(rt: &impl Abort, row: &Row) -> Result<(), Fail> {
@@ -186,7 +179,7 @@ fn prints_no_short(rt: &impl Abort, row: &Row) {
 
 fn stands(rt: &impl Abort, row: &Row) -> Result<(), Fail> {
     reads(rt, row)?;
-    reads_no_cut(rt, row)?;
+    reads_no_cut(rt, row);
     writes(rt, row)?;
     writes_no_further(rt, row);
     prints(rt, row)?;
@@ -196,26 +189,25 @@ fn stands(rt: &impl Abort, row: &Row) -> Result<(), Fail> {
 
 #[test]
 fn each_row(rt: HostRuntime) -> Result<(), Fail> {
-    for row in ROWS.iter().chain(BUILD.iter()) {
+    for row in ROWS.iter().chain(BUILD.iter().map(|(_, row)| row)) {
         stands(&rt, row)?;
     }
     Ok(())
 }
 
+fn is_unknown(kind: u8) -> bool {
+    !b"OATSKHEFRD".contains(&kind)
+}
+
 #[test]
-fn each_unknown_kind(rt: HostRuntime) -> Result<(), Fail> {
-    let mut unknown = 0usize;
-    for kind in 0..=255u8 {
-        if b"OATSKHEFRD".contains(&kind) {
-            continue;
-        }
+fn each_unknown_kind(rt: HostRuntime) {
+    let unknown = (0..=255u8).filter(|kind| is_unknown(*kind)).count();
+    assert_eq!(rt; unknown, 246);
+    for kind in (0..=255u8).filter(|kind| is_unknown(*kind)) {
         let schedule = [kind, 0, 0, 0];
         let mut reader = ScheduleReader::new(&schedule);
-        refuses(&rt, &mut reader, ReadRefusal::UnknownKind { place: 0 })?;
-        unknown = unknown.saturating_add(1);
+        refuses(&rt, &mut reader, ReadRefusal::UnknownKind { place: 0 });
     }
-    assert_eq!(rt; unknown, 246);
-    Ok(())
 }
 
 #[test]
@@ -237,77 +229,106 @@ fn behind_good_records(rt: HostRuntime) -> Result<(), Fail> {
         let mut reader = ScheduleReader::new(&schedule);
         assert_eq!(rt; reader.next()?.ok_or("no halt")?.place, 0);
         assert_eq!(rt; reader.next()?.ok_or("no step")?.place, 1);
-        refuses(&rt, &mut reader, refusal)?;
+        refuses(&rt, &mut reader, refusal);
     }
     Ok(())
 }
 
 // A build of one job that ends well and one that fails, over one token: docs/SCHEDULE.md goes through it.
-static BUILD: [Row; 10] = [
-    Row {
-        record: Record::Open {
-            limit: 2,
-            keep: 0,
-            nodes: 3,
+// Each record with its place.
+static BUILD: [(usize, Row); 10] = [
+    (
+        0,
+        Row {
+            record: Record::Open {
+                limit: 2,
+                keep: 0,
+                nodes: 3,
+            },
+            bytes: &[79, 2, 0, 3],
+            line: b"O 2 0 3\n",
         },
-        bytes: &[79, 2, 0, 3],
-        line: b"O 2 0 3\n",
-    },
-    Row {
-        record: Record::StartInSlot { make: 0, child: 1 },
-        bytes: &[65, 0, 1],
-        line: b"A 0 1\n",
-    },
-    Row {
-        record: Record::StartWithToken {
-            make: 0,
-            child: 2,
-            token: 120,
+    ),
+    (
+        4,
+        Row {
+            record: Record::StartInSlot { make: 0, child: 1 },
+            bytes: &[65, 0, 1],
+            line: b"A 0 1\n",
         },
-        bytes: &[84, 0, 2, 120],
-        line: b"T 0 2 120\n",
-    },
-    Row {
-        record: Record::Step { job: 1 },
-        bytes: &[83, 1],
-        line: b"S 1\n",
-    },
-    Row {
-        record: Record::EndedWell { node: 1 },
-        bytes: &[69, 1],
-        line: b"E 1\n",
-    },
-    Row {
-        record: Record::PutBack {
-            make: 0,
-            token: 120,
+    ),
+    (
+        7,
+        Row {
+            record: Record::StartWithToken {
+                make: 0,
+                child: 2,
+                token: 120,
+            },
+            bytes: &[84, 0, 2, 120],
+            line: b"T 0 2 120\n",
         },
-        bytes: &[82, 0, 120],
-        line: b"R 0 120\n",
-    },
-    Row {
-        record: Record::Step { job: 2 },
-        bytes: &[83, 2],
-        line: b"S 2\n",
-    },
-    Row {
-        record: Record::EndedFailed { node: 2, cause: 1 },
-        bytes: &[70, 2, 1],
-        line: b"F 2 1\n",
-    },
-    Row {
-        record: Record::EndedFailed { node: 0, cause: 3 },
-        bytes: &[70, 0, 3],
-        line: b"F 0 3\n",
-    },
-    Row {
-        record: Record::Finished { failed: 1 },
-        bytes: &[68, 1],
-        line: b"D 1\n",
-    },
+    ),
+    (
+        11,
+        Row {
+            record: Record::Step { job: 1 },
+            bytes: &[83, 1],
+            line: b"S 1\n",
+        },
+    ),
+    (
+        13,
+        Row {
+            record: Record::EndedWell { node: 1 },
+            bytes: &[69, 1],
+            line: b"E 1\n",
+        },
+    ),
+    (
+        15,
+        Row {
+            record: Record::PutBack {
+                make: 0,
+                token: 120,
+            },
+            bytes: &[82, 0, 120],
+            line: b"R 0 120\n",
+        },
+    ),
+    (
+        18,
+        Row {
+            record: Record::Step { job: 2 },
+            bytes: &[83, 2],
+            line: b"S 2\n",
+        },
+    ),
+    (
+        20,
+        Row {
+            record: Record::EndedFailed { node: 2, cause: 1 },
+            bytes: &[70, 2, 1],
+            line: b"F 2 1\n",
+        },
+    ),
+    (
+        23,
+        Row {
+            record: Record::EndedFailed { node: 0, cause: 3 },
+            bytes: &[70, 0, 3],
+            line: b"F 0 3\n",
+        },
+    ),
+    (
+        26,
+        Row {
+            record: Record::Finished { failed: 1 },
+            bytes: &[68, 1],
+            line: b"D 1\n",
+        },
+    ),
 ];
-
-static PLACES: [usize; 10] = [0, 4, 7, 11, 13, 15, 18, 20, 23, 26];
 
 static BUILD_BYTES: [u8; 28] = [
     79, 2, 0, 3, 65, 0, 1, 84, 0, 2, 120, 83, 1, 69, 1, 82, 0, 120, 83, 2, 70, 2, 1, 70, 0, 3, 68,
@@ -317,7 +338,7 @@ static BUILD_BYTES: [u8; 28] = [
 #[test]
 fn a_whole_build(rt: HostRuntime) -> Result<(), Fail> {
     let mut reader = ScheduleReader::new(&BUILD_BYTES);
-    for (row, place) in BUILD.iter().zip(PLACES.iter()) {
+    for (place, row) in &BUILD {
         let placed = reader.next()?.ok_or("ended early")?;
         assert_eq!(rt; placed.place, *place);
         assert_eq!(rt; placed.record.record(), row.record);
@@ -332,7 +353,8 @@ fn a_build_cut_short(rt: HostRuntime) -> Result<(), Fail> {
     for _ in 0..9 {
         assert!(rt; reader.next()?.is_some());
     }
-    refuses(&rt, &mut reader, ReadRefusal::CutShort { place: 26 })
+    refuses(&rt, &mut reader, ReadRefusal::CutShort { place: 26 });
+    Ok(())
 }
 
 #[test]
