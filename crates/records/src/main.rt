@@ -10,49 +10,43 @@ use schedule::line::LINE_ROOM;
 use schedule::reader::ScheduleReader;
 use schedule::refusal::ReadRefusal;
 use schedule::view::Placed;
-use std::alloc::{AllocError, Global};
+use std::alloc::Global;
 use std::io;
-use std::io::Read;
+use std::io::{Read, Write};
 
-fn list_record(out: &mut Vec<u8>, heap: Global, placed: Placed<'_>) -> Result<(), AllocError>
+fn list_record(out: &mut Vec<u8>, placed: Placed<'_>) -> io::Result<()>
     ensures { OnOk result (out.new.items ≡ out.old.items ++ entry_line (placed.entry.place, viewed placed.entry.record)) }
 {
     let place = placed.place;
-    let front = format!(in heap; "{place} ")?;
     let mut buffer = [0u8; LINE_ROOM];
     let length = placed.record.record().line(&mut buffer).unwrap();
-    out.extend_from_slice(front.as_bytes())?;
-    out.extend_from_slice(&buffer[0..length])?;
-    Ok(())
+    write!(out, "{place} ")?;
+    out.write_all(&buffer[0..length])
 }
 
-fn list_refusal(out: &mut Vec<u8>, heap: Global, refusal: ReadRefusal) -> Result<(), AllocError>
+fn list_refusal(out: &mut Vec<u8>, refusal: ReadRefusal) -> io::Result<()>
     ensures { OnOk result (out.new.items ≡ out.old.items ++ refusal_line refusal) }
 {
     let number = refusal.number();
     let place = refusal.place();
-    let text = format!(in heap; "refused {number} {place}\n")?;
-    out.extend_from_slice(text.as_bytes())
+    writeln!(out, "refused {number} {place}")
 }
 
 // The listing of a whole schedule.
-fn list(heap: Global, schedule: &[u8]) -> Result<Vec<u8>, AllocError>
+fn list(heap: Global, schedule: &[u8]) -> io::Result<Vec<u8>>
     ensures { IfOk result (λ v. v.items ≡ listed (division schedule.now 0)) }
 {
     let mut out = Vec::new(heap);
     let mut reader = ScheduleReader::new(schedule);
     loop {
-        let next = match reader.next() {
-            Ok(next) => next,
+        match reader.next() {
+            Ok(Some(placed)) => list_record(&mut out, placed)?,
+            Ok(None) => return Ok(out),
             Err(refusal) => {
-                list_refusal(&mut out, heap, refusal)?;
+                list_refusal(&mut out, refusal)?;
                 return Ok(out);
             }
-        };
-        let Some(placed) = next else {
-            return Ok(out);
-        };
-        list_record(&mut out, heap, placed)?;
+        }
     }
 }
 

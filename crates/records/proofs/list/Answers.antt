@@ -8,10 +8,10 @@ use Rattle.records.proofs.list.Goals as goal
 moved : (out line rest : List ℕ) {more left whole : List ℕ} → more ≡ out ++ line → left ≡ line ++ rest → out ++ left ≡ whole → more ++ rest ≡ whole
 moved out line rest p q r = ap (λ l. l ++ rest) p ∙ append_assoc out line rest ∙ ap (λ l. out ++ l) (sym q) ∙ r
 
-pub loop-next-smaller : goal.loop-next-smaller
-loop-next-smaller c = ahead_falls _ _ _ (rw c.in-Some.is at c.in-Ok.ensures.records)
+pub loop-placed-smaller : goal.loop-placed-smaller
+loop-placed-smaller c = ahead_falls _ _ _ (rw c.in-Ok-Some.field-0-is at c.in-Ok-Some.ensures.records)
 
-pub loop-next-preserved : goal.loop-next-preserved
-loop-next-preserved c =
-    moved (vec_items c.loop-next.out) _ (listed (left_of c.next.new.self))
-    c.in_ok-list_record.ensures (ap listed (rw c.in-Some.is at c.in-Ok.ensures.law)) c.loop-next.invariant
+pub loop-placed-preserved : goal.loop-placed-preserved
+loop-placed-preserved c =
+    moved (vec_items c.loop-placed.out) _ (listed (left_of c.next.new.self))
+    c.in_ok-list_record-in-Ok-Some.ensures (ap listed (rw c.in-Ok-Some.field-0-is at c.in-Ok-Some.ensures.law)) c.loop-placed.invariant

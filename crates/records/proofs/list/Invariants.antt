@@ -4,8 +4,8 @@ use Rattle.schedule.specs.Reading.{division}
 use Rattle.schedule.specs.Views.{ahead, left_of}
 use Rattle.records.proofs.list.Given as goal
 
-abbrev pub invariant-loop-next : goal.invariant-loop-next
-invariant-loop-next l = vec_items l.out ++ listed (left_of l.reader) ≡ listed (division l.schedule 0)
+abbrev pub invariant-loop-placed : goal.invariant-loop-placed
+invariant-loop-placed l = vec_items l.out ++ listed (left_of l.reader) ≡ listed (division l.schedule 0)
 
-abbrev pub decreases-loop-next : goal.decreases-loop-next
-decreases-loop-next l = length (ahead l.reader)
+abbrev pub decreases-loop-placed : goal.decreases-loop-placed
+decreases-loop-placed l = length (ahead l.reader)
