@@ -1,12 +1,8 @@
 // From the input to the printed text.
-ghost use Rattle.std.specs.Prelude.{◌≡◌, ◌≤◌, length, IfOk};
+ghost use Rattle.std.specs.Prelude.{◌≡◌, IfOk, string_bytes};
 ghost use Rattle.first_line.specs.Head.{Few, told_choice};
-ghost use Rattle.pipe.specs.Pipes.{AllIn, pipe_ways};
-ghost use Rattle.pool.specs.Meaning.{most_tokens};
 ghost use Rattle.report.specs.Report.{Reported, Round, Scripted, Told};
 ghost use Rattle.script.specs.Reading.{read_text};
-ghost use Rattle.semaphore.specs.Semaphores.{semaphore_ways};
-ghost use Rattle.semaphore.specs.Semaphores as semaphores;
 
 use crate::nodes::push_tree;
 use crate::printed::{event_lines, refusal_line};
@@ -23,22 +19,23 @@ use tree::Tree;
 pub fn report(heap: Global, input: &[u8]) -> Result<Vec<u8>, AllocError>
     ensures result { IfOk result (λ v. Reported input.now v.items) }
 {
-    match read_first_line(input) {
-        Err(refusal) => refusal_line(heap, refusal.number(), 0),
-        Ok(line) => script_report(heap, line.pool, line.rest),
-    }
+    let text = match read_first_line(input) {
+        Err(refusal) => refusal_line(heap, refusal.number(), 0)?,
+        Ok(line) => script_report(heap, line.pool, line.rest)?,
+    };
+    Ok(text.into_bytes())
 }
 
 // The text for a pool and the script behind the first line.
-fn script_report(heap: Global, pool: PoolChoice, script: &[u8]) -> Result<Vec<u8>, AllocError>
+fn script_report(heap: Global, pool: PoolChoice, script: &[u8]) -> Result<String, AllocError>
     requires { Few (told_choice pool) }
-    ensures result { IfOk result (λ v. Scripted (told_choice pool.entry) (read_text script.now) v.items) }
+    ensures result { IfOk result (λ s. Scripted (told_choice pool.entry) (read_text script.now) (string_bytes s)) }
 {
     let mut tree = Tree::new(heap)?;
     match read_script(&mut tree, heap, script) {
         Ok(()) => {
             let mut text = pool_round(heap, pool)?;
-            push_tree(heap, &mut text, &tree)?;
+            push_tree(&mut text, &tree)?;
             Ok(text)
         }
         Err(ReadError::Fault(fault)) => refusal_line(heap, fault.number(), fault.place().line),
@@ -47,43 +44,27 @@ fn script_report(heap: Global, pool: PoolChoice, script: &[u8]) -> Result<Vec<u8
 }
 
 // The lines of a round on the pool that is asked for.
-fn pool_round(heap: Global, pool: PoolChoice) -> Result<Vec<u8>, AllocError>
+fn pool_round(heap: Global, pool: PoolChoice) -> Result<String, AllocError>
     requires { Few (told_choice pool) }
-    ensures result { IfOk result (λ v. Told (told_choice pool.entry) v.items) }
+    ensures result { IfOk result (λ s. Told (told_choice pool.entry) (string_bytes s)) }
 {
     match pool {
-        PoolChoice::Pipe(tokens) => pipe_round(heap, tokens),
-        PoolChoice::Semaphore(count) => semaphore_round(heap, count),
-    }
-}
-
-// A round on a pipe with these tokens.
-fn pipe_round(heap: Global, tokens: &[u8]) -> Result<Vec<u8>, AllocError>
-    requires { length tokens.now ≤ most_tokens }
-    ensures result { IfOk result (λ v. Round pipe_ways (AllIn tokens.now) v.items) }
-{
-    let mut pipe = Pipe::new();
-    match pipe.fill(tokens) {
-        Ok(()) => round(heap, &mut pipe),
-        Err(_) => unreachable(),
-    }
-}
-
-// A round on a semaphore with so many tokens.
-fn semaphore_round(heap: Global, count: u32) -> Result<Vec<u8>, AllocError>
-    requires { count ≤ most_tokens }
-    ensures result { IfOk result (λ v. Round semaphore_ways (semaphores.AllIn count) v.items) }
-{
-    let mut semaphore = Semaphore::new();
-    match semaphore.fill(count) {
-        Ok(()) => round(heap, &mut semaphore),
-        Err(_) => unreachable(),
+        PoolChoice::Pipe(tokens) => {
+            let mut pipe = Pipe::new();
+            pipe.fill(tokens).unwrap();
+            round(heap, &mut pipe)
+        }
+        PoolChoice::Semaphore(count) => {
+            let mut semaphore = Semaphore::new();
+            semaphore.fill(count).unwrap();
+            round(heap, &mut semaphore)
+        }
     }
 }
 
 // The lines of a round on the pool.
-fn round<P: Pool>(heap: Global, pool: &mut P) -> Result<Vec<u8>, AllocError>
-    ensures result { IfOk result (λ v. Round P.Lender.ways (λ p. p ≡ pool.old) v.items) }
+fn round<P: Pool>(heap: Global, pool: &mut P) -> Result<String, AllocError>
+    ensures result { IfOk result (λ s. Round P.Lender.ways (λ p. p ≡ pool.old) (string_bytes s)) }
 {
     let events = drain(heap, pool)?;
     event_lines(heap, events.as_slice())
