@@ -55,7 +55,7 @@ impl fmt::Display for NodeLine<'_> {
     }
 }
 
-// Adds the lines of all nodes, in rising number.
+// Adds the lines of all nodes, in rising number: a tree is asked by number, and hands out no iterator over its nodes.
 pub fn push_tree(text: &mut String, tree: &Tree) -> Result<(), AllocError>
     ensures after { OnOk result (string_bytes text.new ≡ string_bytes text.old ++ tree_lines tree.now) }
 {

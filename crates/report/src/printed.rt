@@ -14,7 +14,12 @@ impl fmt::Display for StandingText {
     ghost output = { λ text. Some (standing_text text.0) };
 
     fn fmt<W: fmt::Write>(&self, f: &mut fmt::Formatter<W>) -> fmt::Result {
-        let Standing { byte, tokens_in, tokens_out, ready } = self.0;
+        let Standing {
+            byte,
+            tokens_in,
+            tokens_out,
+            ready,
+        } = self.0;
         writeln!(f, "{byte} in {tokens_in} out {tokens_out} ready {ready}")
     }
 }

@@ -39,6 +39,7 @@ fn script_report(heap: Global, pool: PoolChoice, script: &[u8]) -> Result<String
             Ok(text)
         }
         Err(ReadError::Fault(fault)) => refusal_line(heap, fault.number(), fault.place().line),
+        // what the reader met is handed on
         Err(ReadError::NoMemory) => Err(AllocError),
     }
 }
