@@ -1,5 +1,6 @@
 -- The format: the bytes of a record, and the records one behind the other. Assumes nothing.
 use Rattle.std.specs.Prelude.{ℕ, cond, List, [], ◌∷◌, ◌++◌, length, Some, None, Option, ◌==◌, slice_index}
+use Rattle.std.specs.List.{flat_map}
 use Rattle.schedule.specs.declared.record.Record.{Record}
 use Rattle.schedule.specs.declared.record.Record.TheVariants.{Open, StartInSlot, StartWithToken, Step, Kill, Halt, EndedWell, EndedFailed, PutBack, Finished}
 
@@ -52,5 +53,4 @@ size r = length (bytes r)
 
 -- records one behind the other
 abbrev pub encoded : List Record → List ℕ
-encoded [] = []
-encoded (r ∷ rs) = bytes r ++ encoded rs
+encoded rs = flat_map bytes rs

@@ -1,17 +1,18 @@
 use Rattle.std.proofs.Common.{ap, ◌∙◌, arith}
 use Rattle.std.proofs.lemmas.List.{take_all}
+use Rattle.std.proofs.lemmas.List.Folds.{length-flat_map-take}
+use Rattle.schedule.specs.Records.{bytes}
 use Rattle.schedule.specs.Reading.{division}
 use Rattle.schedule.specs.declared.record.Record.TheVariants.{Open}
 use Rattle.schedule.proofs.Buffers.{wrote_both, wrote_between}
 use Rattle.schedule.proofs.Divisions.{division_encoded}
-use Rattle.schedule.proofs.Encodings.{encoded_more, encoded_left, encoded_split}
+use Rattle.schedule.proofs.Encodings.{encoded_more}
 use Rattle.schedule.proofs.write.put_records.Goals as goal
 
 pub put-at-requires : goal.put-at-requires
 put-at-requires c =
-    let rs = c.args.records.now in
-    let i = c.loop-record.record-index in
-    omega (arith, encoded_split rs i, encoded_left rs i (Open 0 0 0) c.loop-record-test.true, c.loop-record.invariant.end)
+    let fits = length-flat_map-take bytes c.args.records.now c.loop-record.record-index (Open 0 0 0) c.loop-record-test.true in
+    omega (arith, fits, c.loop-record.invariant.end)
 
 pub loop-record-preserved : goal.loop-record-preserved
 loop-record-preserved c =
