@@ -3,7 +3,7 @@ use Rattle.std.proofs.Common.{◌≡◌, ℕ, ◌+◌, ◌-◌, ◌≤◌, Bor, 
 use Rattle.std.proofs.lemmas.List.{drop-drop, drop_all, length-take-le, take-append-drop, drop_more}
 use Rattle.std.specs.Slice.{IsItemAt}
 use Rattle.schedule.specs.declared.refusal.ReadRefusal.{ReadRefusal}
-use Rattle.schedule.specs.declared.refusal.ReadRefusal.TheVariants.{UnknownKind, CutShort}
+use Rattle.schedule.specs.declared.refusal.ReadRefusal.TheVariants.{CutShort}
 use Rattle.schedule.specs.declared.view.RecordView.{RecordView}
 use Rattle.schedule.specs.Records.{Kind, kind_of, size}
 use Rattle.schedule.specs.Reading.{length_of_kind, body_length, record_of, Found, found_of_kind, found, begun, division}
@@ -52,9 +52,9 @@ abbrev body_of : List ℕ → ℕ → ℕ → List ℕ
 body_of s place n = take (((place + 1) + n) - (place + 1)) (rest_of s place)
 
 -- the letter that was found at a place stands there, and the rest behind it
-pub starts_with : (s : List ℕ) (place : ℕ) (x : Bor ℕ) (letter : ℕ) → IsItemAt s place (Some x) → x.now ≡ letter → drop place s ≡ letter ∷ rest_of s place
-starts_with s place x letter found e =
-    drop_more s place 0 found.3.0 ∙ ap (λ l. l ∷ rest_of s place) (sym (found.4 (omega arith) 0) ∙ e)
+pub starts_with : (s : List ℕ) (place : ℕ) (x : Bor ℕ) → IsItemAt s place (Some x) → drop place s ≡ x.now ∷ rest_of s place
+starts_with s place x found =
+    drop_more s place 0 found.3.0 ∙ ap (λ l. l ∷ rest_of s place) (sym (found.4 (omega arith) 0))
 
 module _ (s : List ℕ) (place letter : ℕ) (starts : drop place s ≡ letter ∷ rest_of s place) where
   found_kind : found (drop place s) place ≡ found_of_kind (kind_of letter) (rest_of s place) place
@@ -62,9 +62,6 @@ module _ (s : List ℕ) (place letter : ℕ) (starts : drop place s ≡ letter �
 
   left : length s - (place + 1) ≡ length (rest_of s place)
   left = sym (length-drop (place + 1) s)
-
-  pub found_unknown : kind_of letter ≡ None → Err (UnknownKind place) ≡ found (drop place s) place
-  found_unknown e = sym (found_kind ∙ rw e refl)
 
   pub found_none : (e : ReadRefusal) → Err e ≡ body_length letter (length s - (place + 1)) place → Err e ≡ found (drop place s) place
   found_none e r = sym (found_kind ∙ found_refused (kind_of letter) (rest_of s place) place e (rw left at (sym r)))

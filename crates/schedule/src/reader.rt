@@ -3,7 +3,7 @@ ghost use Rattle.std.specs.Prelude.{◌≡◌, ◌++◌, Ok, Err, MatchResult};
 ghost use Rattle.schedule.specs.Reading.{found, behind, begun, division, Faithful};
 ghost use Rattle.schedule.specs.Views.{shown, ahead, left_of, handed, span, Reads};
 
-use crate::kind::Kind;
+use crate::length::body_length;
 use crate::refusal::ReadRefusal;
 use crate::view::{Placed, view};
 
@@ -46,10 +46,9 @@ impl<'a> ScheduleReader<'a> {
             return Ok((None, place));
         };
         let start = place + 1;
-        let kind = Kind::at(letter, place)?;
-        let length = kind.body_length(schedule.len() - start, place)?;
+        let length = body_length(letter, schedule.len() - start, place)?;
         let end = start + length;
-        let record = view(kind, &schedule[start..end]);
+        let record = view(letter, &schedule[start..end]);
         Ok((Some(Placed { place, record }), end))
     }
 }

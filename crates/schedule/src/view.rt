@@ -1,6 +1,5 @@
 // A record as the reader hands it out: by kind, with its body as a part of the schedule.
 ghost use Rattle.std.specs.Prelude.{◌≡◌, ◌∷◌, length, Some, Ok};
-ghost use Rattle.schedule.specs.Kinds.{letter_of};
 ghost use Rattle.schedule.specs.Reading.{body_length, record_of};
 ghost use Rattle.schedule.specs.Views.{span, viewed};
 
@@ -58,13 +57,13 @@ impl From<RecordView<'_>> for Record {
     }
 }
 
-// The view of a kind and its whole body.
-pub(crate) fn view<'a>(kind: Kind, body: &'a [u8]) -> RecordView<'a>
-    requires { body_length (letter_of kind) (length body.now) 0 ≡ Ok (length body.now) }
-    ensures records { span result ≡ letter_of kind ∷ body.now }
-    ensures result { Some (viewed result) ≡ record_of (letter_of kind) body.now }
+// The view of a kind byte and its whole body.
+pub(crate) fn view<'a>(kind: u8, body: &'a [u8]) -> RecordView<'a>
+    requires { body_length kind (length body.now) 0 ≡ Ok (length body.now) }
+    ensures records { span result ≡ kind ∷ body.now }
+    ensures result { Some (viewed result) ≡ record_of kind body.now }
 {
-    match kind {
+    match Kind::try_from(kind).unwrap() {
         Kind::Open => RecordView::Open(body.try_into().unwrap()),
         Kind::StartInSlot => RecordView::StartInSlot(body.try_into().unwrap()),
         Kind::StartWithToken => RecordView::StartWithToken(body.try_into().unwrap()),
