@@ -50,8 +50,8 @@ impl Record {
         ensures after { MatchResult result (λ to. Wrote buffer.old place (bytes self) buffer.new to) (λ _. buffer.new ≡ buffer.old) }
         ensures law { IfOk result (λ to. Behind place buffer.old self buffer.new to) }
     {
-        let size = self.size();
-        if buffer.len() < size || buffer.len() - size < place {
+        let room = buffer.len().checked_sub(place).ok_or(ShortBuffer)?;
+        if room < self.size() {
             return Err(ShortBuffer);
         }
         Ok(self.put(buffer, place))
@@ -91,7 +91,8 @@ pub fn write_records(
     ensures after { MatchResult result (λ to. Wrote buffer.old place (encoded records.now) buffer.new to) (λ _. buffer.new ≡ buffer.old) }
     ensures law { IfOk result (λ to. division (between place to buffer.new) 0 ≡ all_of 0 records.now) }
 {
-    if buffer.len() < place || !fit(records, buffer.len() - place) {
+    let room = buffer.len().checked_sub(place).ok_or(ShortBuffer)?;
+    if !fit(records, room) {
         return Err(ShortBuffer);
     }
     Ok(put_records(records, buffer, place))
