@@ -1,10 +1,10 @@
 -- Writes into a buffer, one behind the other. Assumes nothing.
-use Rattle.std.proofs.Common.{◌≡◌, ℕ, ◌+◌, ◌-◌, ◌≤◌, List, [], ◌++◌, length, take, drop, Ok, sym, refl, ap, ◌∙◌, append_assoc, add-zero, arith, length-append, length-drop, le-leb}
+use Rattle.std.proofs.Common.{◌≡◌, ℕ, ◌+◌, ◌-◌, ◌≤◌, List, [], ◌++◌, length, take, drop, sym, refl, ap, ◌∙◌, append_assoc, add-zero, arith, length-append, length-drop}
 use borrow.Rule.Slice.PartMut.{put_mid}
 use Rattle.std.proofs.lemmas.List.{drop-drop, take-append-drop, length-take-le, take_at, drop_at}
 use Rattle.std.proofs.lemmas.Slice.{between_is}
 use Rattle.std.specs.List.{between}
-use Rattle.schedule.specs.Buffers.{Wrote, place_after}
+use Rattle.schedule.specs.Buffers.{Wrote}
 
 -- a write to the part of a buffer between two places
 pub wrote_part : (old : List ℕ) (from to : ℕ) (added part : List ℕ) → part ≡ added → to ≡ from + length added → to ≤ length old → Wrote old from added (put_mid from (to - from) old part) to
@@ -49,7 +49,3 @@ wrote_both {old} {from} {first} {mid} {at} {second} {new} {to} w v =
     let rest : drop (at + length second) mid ≡ drop (from + length (first ++ second)) old =
     sym (drop-drop (length second) at mid) ∙ ap (drop (length second)) (wrote_rest w) ∙ drop-drop (length second) at old ∙ ap (λ n. drop n old) many in
     record { end = v.end ∙ many; room = omega (arith, v.room, wrote_length w); after = v.after ∙ rw (wrote_front w, rest) (simp append_assoc) }
-
--- where there is room, the answer is the place behind
-pub fits_after : (long from many : ℕ) → from + many ≤ long → place_after long from many ≡ Ok (from + many)
-fits_after long from many h = rw (le-leb (from + many) long h) refl
