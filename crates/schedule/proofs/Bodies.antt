@@ -1,9 +1,8 @@
 -- A record that stands at a place, or why none does. Assumes nothing.
-use Rattle.std.proofs.Common.{◌≡◌, ℕ, ◌+◌, ◌-◌, ◌≤◌, Bor, Bool, true, false, cond, leb, List, ◌∷◌, ◌++◌, length, take, drop, Some, None, Ok, Err, Option, Result, sym, refl, ap, ◌∙◌, arith, length-drop, le-leb, leb-true}
+use Rattle.std.proofs.Common.{◌≡◌, ℕ, ◌+◌, ◌-◌, ◌≤◌, Bor, List, ◌∷◌, ◌++◌, length, take, drop, Some, None, Ok, Err, Option, sym, refl, ap, ◌∙◌, arith, length-drop, le-leb}
 use Rattle.std.proofs.lemmas.List.{drop-drop, drop_all, length-take-le, take-append-drop, drop_more}
 use Rattle.std.specs.Slice.{IsItemAt}
 use Rattle.schedule.specs.declared.refusal.ReadRefusal.{ReadRefusal}
-use Rattle.schedule.specs.declared.refusal.ReadRefusal.TheVariants.{CutShort}
 use Rattle.schedule.specs.declared.view.RecordView.{RecordView}
 use Rattle.schedule.specs.Records.{Kind, kind_of, size}
 use Rattle.schedule.specs.Reading.{length_of_kind, body_length, record_of, Found, found_of_kind, found, begun, division}
@@ -20,25 +19,13 @@ pub record Whole (kind : Option Kind) (n left : ℕ) : Type 0 where
 
 pub whole : (kind : Option Kind) (left place n : ℕ) → length_of_kind kind left place ≡ Ok n → Whole kind n left
 whole None left place n e = cc
-whole (Some k) left place n e = split (leb k.follow left) refl e
-  where
-    split : (b : Bool) → leb k.follow left ≡ b → ◌≡◌ {A = Result ℕ ReadRefusal} (cond b (Ok k.follow) (Err (CutShort place))) (Ok n) → Whole (Some k) n left
-    split true t e = let same : k.follow ≡ n = cc in record { known = k; is = refl; long = same; there = omega (arith, leb-true k.follow left t) }
-    split false t e = cc
+whole (Some k) left place n e = record { known = k; is = refl; long = grind arith; there = grind arith }
 
 pub found_whole : {kind : Option Kind} (rest : List ℕ) (place : ℕ) {n : ℕ} → (w : Whole kind n (length rest)) → found_of_kind kind rest place ≡ Ok (Some (place, w.known.filled (take n rest)))
-found_whole rest place w =
-    let k = w.known in
-    let fits : k.follow ≤ length rest = omega (arith, w.long, w.there) in
-    rw (w.is, le-leb k.follow (length rest) fits, w.long) refl
+found_whole rest place w = grind arith
 
 pub found_refused : (kind : Option Kind) (rest : List ℕ) (place : ℕ) (e : ReadRefusal) → length_of_kind kind (length rest) place ≡ Err e → found_of_kind kind rest place ≡ Err e
-found_refused None rest place e r = cc
-found_refused (Some k) rest place e r = split (leb k.follow (length rest)) r
-  where
-    split : (b : Bool) → ◌≡◌ {A = Result ℕ ReadRefusal} (cond b (Ok k.follow) (Err (CutShort place))) (Err e) → ◌≡◌ {A = Found} (cond b (Ok (Some (place, k.filled (take k.follow rest)))) (Err (CutShort place))) (Err e)
-    split true r = cc
-    split false r = cc
+found_refused kind rest place e r = grind arith
 
 pub found_end : (s : List ℕ) (place : ℕ) → length s ≤ place → Ok None ≡ found (drop place s) place
 found_end s place h = rw (drop_all place s h) refl

@@ -8,11 +8,7 @@ use Rattle.schedule.proofs.Table.{found_written}
 
 -- a record takes at least one byte
 pub size_some : (r : Record) → 0 < size r
-size_some r = some (bytes r) (found_written r [] 0)
-  where
-    some : (bs : List ℕ) → found (bs ++ []) 0 ≡ Ok (Some (0, r)) → 0 < length bs
-    some [] e = cc
-    some (b ∷ bs) e = omega arith
+size_some r = grind arith
 
 pub shorter : (r : Record) (bs : List ℕ) (n : ℕ) → length bs ≤ suc n → length (drop (size r) bs) ≤ n
 shorter r bs n h = rw (length-drop (size r) bs) (omega (arith, size_some r))
@@ -20,10 +16,8 @@ shorter r bs n h = rw (length-drop (size r) bs) (omega (arith, size_some r))
 -- a reading of at most as many records as there are bytes, or more, is the whole reading
 divided_enough : (n m : ℕ) (bs : List ℕ) (place : ℕ) → length bs ≤ n → length bs ≤ m → divided n bs place ≡ divided m bs place
 divided_enough zero zero bs place h k = refl
-divided_enough zero (suc m) [] place h k = refl
-divided_enough zero (suc m) (b ∷ bs) place h k = absurd (omega arith)
-divided_enough (suc n) zero [] place h k = refl
-divided_enough (suc n) zero (b ∷ bs) place h k = absurd (omega arith)
+divided_enough zero (suc m) bs place h k = grind arith
+divided_enough (suc n) zero bs place h k = grind arith
 divided_enough (suc n) (suc m) bs place h k =
     ap (begun (found bs place)) (λ i r. divided_enough n m (drop (size r) bs) (place + size r) (shorter r bs n h) (shorter r bs m k) i)
 

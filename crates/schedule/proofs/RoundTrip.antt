@@ -1,8 +1,8 @@
 -- A written schedule reads back, and a reading that comes to the end has read what was written. Assumes nothing.
-use Rattle.std.proofs.Common.{◌≡◌, ℕ, zero, suc, ◌+◌, ◌≤◌, Bool, true, false, cond, leb, List, [], ◌∷◌, ◌++◌, length, take, drop, Some, None, Ok, Err, Option, sym, refl, ap, ◌∙◌, append-nil, arith, leb-true}
+use Rattle.std.proofs.Common.{◌≡◌, ℕ, zero, suc, ◌+◌, ◌≤◌, List, [], ◌∷◌, ◌++◌, length, drop, Some, None, Ok, Err, Option, sym, refl, ap, ◌∙◌, append-nil, arith}
+use Rattle.std.proofs.lemmas.Grind.{common_steps}
 use Rattle.std.proofs.lemmas.List.{length-take-le, take-append-drop}
 use Rattle.schedule.specs.declared.record.Record.{Record}
-use Rattle.schedule.specs.declared.refusal.ReadRefusal.TheVariants.{CutShort}
 use Rattle.schedule.specs.Records.{Kind, kind_of, bytes, size, encoded}
 use Rattle.schedule.specs.Reading.{Found, found_of_kind, found, begun, divided, division, records_read, all_of, Faithful}
 use Rattle.schedule.proofs.Divisions.{shorter, division_encoded}
@@ -17,15 +17,7 @@ Stands bs (Err refusal) = Unit {0}
 
 stands_of_kind : (byte : ℕ) (rest : List ℕ) (place : ℕ) (kind : Option Kind) → kind_of byte ≡ kind → Stands (byte ∷ rest) (found_of_kind kind rest place)
 unfolding Stands
-stands_of_kind byte rest place None e = tt
-stands_of_kind byte rest place (Some k) e = split (leb k.follow (length rest)) refl
-  where
-    split : (b : Bool) → leb k.follow (length rest) ≡ b → Stands (byte ∷ rest) (cond b (Ok (Some (place, k.filled (take k.follow rest)))) (Err (CutShort place)))
-    split true t =
-        let long = length-take-le k.follow rest (leb-true k.follow (length rest) t) in
-        let made = bytes_made byte k e (take k.follow rest) long in
-        rw (made, long) (ap (λ l. byte ∷ l) (sym (take-append-drop k.follow rest)))
-    split false t = tt
+stands_of_kind byte rest place kind e = grind (arith, common_steps, bytes_made, length-take-le, take-append-drop)
 
 stands : (bs : List ℕ) (place : ℕ) → Stands bs (found bs place)
 unfolding Stands

@@ -1,20 +1,10 @@
 -- What is ahead of a reader falls with each record. Assumes nothing.
 use Rattle.std.proofs.Common.{◌≡◌, ℕ, ◌<◌, List, ◌++◌, length, ap, ◌∙◌, arith, length-append}
 use Rattle.schedule.specs.declared.view.RecordView.{RecordView}
-use Rattle.schedule.specs.declared.view.RecordView.TheVariants.{Open, StartInSlot, StartWithToken, Step, Kill, Halt, EndedWell, EndedFailed, PutBack, Finished}
 use Rattle.schedule.specs.Views.{span}
 
 span_some : (v : RecordView) → 0 < length (span v)
-span_some (Open body) = omega arith
-span_some (StartInSlot body) = omega arith
-span_some (StartWithToken body) = omega arith
-span_some (Step body) = omega arith
-span_some (Kill body) = omega arith
-span_some (Halt body) = omega arith
-span_some (EndedWell body) = omega arith
-span_some (EndedFailed body) = omega arith
-span_some (PutBack body) = omega arith
-span_some (Finished body) = omega arith
+span_some v = grind arith
 
 -- a loop that reads on has the length of what is ahead as its measure
 pub ahead_falls : (v : RecordView) (before after : List ℕ) → before ≡ span v ++ after → length after < length before
