@@ -1,7 +1,6 @@
 -- A fold that takes the size of one record after the other from a room. Assumes nothing.
-use Rattle.std.proofs.Common.{◌≡◌, ℕ, ◌+◌, ◌-◌, ◌≤◌, Bor, leb, List, [], ◌∷◌, length, Some, None, Option, MatchOption, Iter, ControlFlow, sym, ap, ◌∙◌, arith, is_some, length-append, le-leb}
+use Rattle.std.proofs.Common.{◌≡◌, ℕ, ◌+◌, ◌-◌, ◌≤◌, Bor, leb, List, [], ◌∷◌, length, Some, None, Option, MatchOption, Iter, ControlFlow, ap, ◌∙◌, arith, is_some, length-append}
 use Rattle.std.proofs.lemmas.List.{nil_from_length}
-use borrow.Author.Tests.{lt-leb}
 use Rattle.std.specs.ControlFlow.{continue_value}
 use denote.Param.Members.{Mut, Called}
 use Rattle.std.specs.Iterator.{Yields, TryFoldTurn, TryFoldsItems}
@@ -29,25 +28,15 @@ resumes _ v = v ≡ None
 module _ {F : Type 0} (E : Type 0) (g : Mut F (ℕ × (Bor Record × Unit {0})) (Option ℕ)) (call : (f : F) (room : ℕ) (x : Bor Record) (v : Option ℕ) (h : F) → Called g f (room, (x, tt)) v h → SomeIff v (size x.now ≤ room) (room - size x.now)) where
   turns_taken : (xs : List (Bor Record)) (s t : Iter Record) (f f' : F) (room left : ℕ) → Yields iter_steps s xs t → FoldsTo {P = F × ℕ} (TryFoldTurn g (branches {E = E})) (f, room) xs (f', left) → left + taken s ≡ room + taken t
   unfolding taken
-  turns_taken [] s t f f' room left y turns =
-      let all : room ≡ left = ap (λ (p : F × ℕ). p.1) turns in
-      let same : length (encoded (iter_rest s)) ≡ length (encoded (iter_rest t)) = ap (λ r. length (encoded (iter_rest r))) y in
-      omega arith
+  turns_taken [] s t f f' room left y turns = grind arith
   turns_taken (x ∷ xs) s t f f' room left y turns =
-      let next = turns.0 in
-      let took = rw turns.1.2 at (call f room x _ _ turns.1.1) in
-      let on = turns_taken xs y.0 t next.0 f' next.1 left y.2 turns.2 in
-      omega (arith, took, on, step_taken s x y.0 y.1)
+      let on = turns_taken xs y.0 t turns.0.0 f' turns.0.1 left y.2 turns.2 in
+      grind (arith, call, step_taken)
 
   ended : (s t u : Iter Record) (f' : F) (room left : ℕ) (r : Option ℕ) (o : Option (Bor Record)) → left + taken s ≡ room + taken t → iter_steps t o u → MatchOption o (r ≡ Some left) (λ x. (v : Option ℕ) × (h : F) × (e : E) × Called g f' (left, (x, tt)) v h × (v ≡ None) × (r ≡ None)) → is_some r ≡ leb (length (encoded (iter_rest s))) room
   unfolding taken
-  ended s t u f' room left r None total last end =
-      let none : length (encoded (iter_rest t)) ≡ 0 = ap (λ rs. length (encoded rs)) (nil_from_length (iter_rest t) last.0) in
-      rw end (sym (le-leb (length (encoded (iter_rest s))) room (omega arith)))
-  ended s t u f' room left r (Some x) total last end =
-      let over : size x.now ≤ left → ⊥ = rw end.4 at (call f' left x _ _ end.3) in
-      let next = step_taken t x u last in
-      rw end.5 (sym (lt-leb (length (encoded (iter_rest s))) room (omega (arith, next))))
+  ended s t u f' room left r None total last end = grind (arith, nil_from_length)
+  ended s t u f' room left r (Some x) total last end = grind (arith, call, step_taken)
 
   pub fits : (s u : Iter Record) (f : F) (room : ℕ) (r : Option ℕ) → TryFoldsItems iter_steps g (branches {E = E}) resumes s f room r u → is_some r ≡ leb (length (encoded (iter_rest s))) room
   fits s u f room r ran =
