@@ -32,9 +32,7 @@ read_whole zero (b ∷ bs) place h e = absurd (omega arith)
 read_whole (suc n) bs place h e = split (found bs place) (stands bs place) e (λ r. read_whole n (drop (size r) bs) (place + size r) (shorter r bs n h))
   where
     split : (x : Found) → Stands bs x → (begun x (λ r. divided n (drop (size r) bs) (place + size r))).stop ≡ None → ((r : Record) → (divided n (drop (size r) bs) (place + size r)).stop ≡ None → drop (size r) bs ≡ encoded (records_read (divided n (drop (size r) bs) (place + size r)))) → bs ≡ encoded (records_read (begun x (λ r. divided n (drop (size r) bs) (place + size r))))
-    split (Ok None) s e on = s
-    split (Ok (Some x)) s e on = s ∙ ap (λ l. bytes x.1 ++ l) (on x.1 e)
-    split (Err refusal) s e on = cc
+    split x s e on = grind arith
 
 records_placed : (place : ℕ) (rs : List Record) → records_read (all_of place rs) ≡ rs
 records_placed place [] = refl
