@@ -1,8 +1,8 @@
 pub mod Bodies
 pub mod Buffers
-pub mod Digits
 pub mod Divisions
 pub mod Encodings
+pub mod Fields
 pub mod Fits
 pub mod RoundTrip
 pub mod Spans

@@ -23,7 +23,7 @@ fn put(buffer: &mut [u8], place: usize, added: &[u8]) -> usize
 
 // Writes a space and a field in decimal. No call of std prints into a buffer and is sure to succeed, so the digits are
 // made here.
-#[tactic(auto, using(crate::proofs::Digits::one_digit, crate::proofs::Digits::two_digits, crate::proofs::Digits::three_digits))]
+#[tactic(auto, using(std::proofs::lemmas::Fmt::decimal_digit, std::proofs::lemmas::Fmt::decimal_step))]
 fn put_field(buffer: &mut [u8], place: usize, field: u8) -> usize
     requires { place + 4 ≤ length buffer.old }
     ensures after { Wrote buffer.old place (32 ∷ decimal field) buffer.new result }

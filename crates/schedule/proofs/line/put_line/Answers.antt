@@ -1,7 +1,7 @@
 use Rattle.std.proofs.Common.{arith}
 use Rattle.std.proofs.lemmas.List.{take_all}
 use Rattle.schedule.proofs.Buffers.{wrote_both}
-use Rattle.schedule.proofs.Digits.{spaced_more}
+use Rattle.schedule.proofs.Fields.{spaced_more}
 use Rattle.schedule.proofs.line.put_line.Goals as goal
 
 pub loop-field-preserved : goal.loop-field-preserved
