@@ -1,5 +1,5 @@
 -- What the reader hands out, as values. Assumes nothing.
-use Rattle.std.specs.Prelude.{◌≡◌, ℕ, List, ◌∷◌, ◌++◌, drop, Some, None, Ok, Err, Option, Result, slice_index}
+use Rattle.std.specs.Prelude.{ℕ, List, ◌∷◌, drop, Some, None, Ok, Err, Option, Result, slice_index}
 use Rattle.schedule.specs.declared.reader.ScheduleReader.{ScheduleReader}
 use Rattle.schedule.specs.declared.record.Record.{Record}
 use Rattle.schedule.specs.declared.record.Record.TheVariants as by_value
@@ -7,7 +7,7 @@ use Rattle.schedule.specs.declared.refusal.ReadRefusal.{ReadRefusal}
 use Rattle.schedule.specs.declared.view.Placed.{Placed}
 use Rattle.schedule.specs.declared.view.RecordView.{RecordView}
 use Rattle.schedule.specs.declared.view.RecordView.TheVariants.{Open, StartInSlot, StartWithToken, Step, Kill, Halt, EndedWell, EndedFailed, PutBack, Finished}
-use Rattle.schedule.specs.Reading.{Found, found, behind, begun, Division, division}
+use Rattle.schedule.specs.Reading.{Found, Division, division}
 
 -- the bytes of the schedule that a view stands for: the kind byte and the body
 abbrev pub span : RecordView → List ℕ
@@ -54,10 +54,3 @@ abbrev pub handed : Result (Option Placed) ReadRefusal → (RecordView → Type 
 handed (Ok None) P = Unit {0}
 handed (Ok (Some p)) P = P p.record
 handed (Err refusal) P = Unit {0}
-
--- a call of `next` on a reader answers so, and the reader's place is then this one
-pub record Reads (reader : ScheduleReader) (answer : Result (Option Placed) ReadRefusal) (to : ℕ) : Type 0 where
-  pub result : shown answer ≡ found (ahead reader) reader.place
-  pub after : to ≡ behind reader.place (shown answer)
-  pub records : handed answer (λ v. ahead reader ≡ span v ++ drop to reader.schedule.now)
-  pub law : left_of reader ≡ begun (shown answer) (λ _. division (drop to reader.schedule.now) to)

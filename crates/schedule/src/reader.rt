@@ -1,7 +1,7 @@
 // The reader: it stands over a schedule, and hands out one record after the other as parts of it.
-ghost use Rattle.std.specs.Prelude.{◌≡◌, ◌++◌, Ok, Err, MatchResult};
+ghost use Rattle.std.specs.Prelude.{◌≡◌, ◌++◌};
 ghost use Rattle.schedule.specs.Reading.{found, behind, begun, division, Faithful};
-ghost use Rattle.schedule.specs.Views.{shown, ahead, left_of, handed, span, Reads};
+ghost use Rattle.schedule.specs.Views.{shown, ahead, left_of, handed, span};
 
 use crate::length::body_length;
 use crate::refusal::ReadRefusal;
@@ -31,24 +31,15 @@ impl<'a> ScheduleReader<'a> {
         ensures records { handed result (λ v. ahead self.old ≡ span v ++ ahead self.new) }
         ensures law { left_of self.old ≡ begun (shown result) (λ _. left_of self.new) }
     {
-        let (next, end) = self.look()?;
-        self.place = end;
-        Ok(next)
-    }
-
-    // The record at the reader's place, and the place behind it.
-    fn look(&self) -> Result<(Option<Placed<'a>>, usize), ReadRefusal>
-        ensures { MatchResult result (λ p. Reads self.now (Ok p.0) p.1) (λ refusal. Reads self.now (Err refusal) self.now.place) }
-    {
-        let schedule = self.schedule;
         let place = self.place;
-        let Some(&letter) = schedule.get(place) else {
-            return Ok((None, place));
+        let Some(&letter) = self.schedule.get(place) else {
+            return Ok(None);
         };
         let start = place + 1;
-        let length = body_length(letter, schedule.len() - start, place)?;
+        let length = body_length(letter, self.schedule.len() - start, place)?;
         let end = start + length;
-        let record = view(letter, &schedule[start..end]);
-        Ok((Some(Placed { place, record }), end))
+        let record = view(letter, &self.schedule[start..end]);
+        self.place = end;
+        Ok(Some(Placed { place, record }))
     }
 }

@@ -2,7 +2,7 @@ use Rattle.std.proofs.Common.{refl}
 use Rattle.std.proofs.lemmas.Result.{err_from_is_err_and}
 use Rattle.schedule.proofs.Bodies.{starts_with, found_end, found_none, taken, body_fits}
 use Rattle.schedule.proofs.Divisions.{reading_on}
-use Rattle.schedule.proofs.reader.ScheduleReader.look.Goals as goal
+use Rattle.schedule.proofs.reader.ScheduleReader.next.Goals as goal
 
 pub returns-in_default : goal.returns-in_default
 returns-in_default c =
@@ -29,4 +29,4 @@ returns c =
     let here = c.args.self.now in
     let starts = starts_with here.schedule.now here.place c.in-Some.field-0 c.in-Some.ensures.lookup in
     let t = taken here.schedule.now here.place _ starts _ c.view-record.result c.in_ok-length.ensures.result c.view-record.ensures.records c.view-record.ensures.result in
-    record { result = t.here; after = t.on; records = t.part; law = t.law }
+    record { result = t.here; after = rw t.on refl; records = t.part; law = t.law }
