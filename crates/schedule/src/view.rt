@@ -1,6 +1,7 @@
 // A record as the reader hands it out: by kind, with its body as a part of the schedule.
-ghost use Rattle.std.specs.Prelude.{◌≡◌, ◌∷◌, length, Some, Ok};
+ghost use Rattle.std.specs.Prelude.{◌≡◌, ◌+◌, ◌∷◌, length, Some, Ok};
 ghost use Rattle.schedule.specs.Reading.{body_length, record_of};
+ghost use Rattle.schedule.specs.Records.{size};
 ghost use Rattle.schedule.specs.Views.{span, viewed};
 
 use crate::kind::Kind;
@@ -62,6 +63,7 @@ pub(crate) fn view<'a>(kind: u8, body: &'a [u8]) -> RecordView<'a>
     requires { body_length kind (length body.now) 0 ≡ Ok (length body.now) }
     ensures records { span result ≡ kind ∷ body.now }
     ensures result { Some (viewed result) ≡ record_of kind body.now }
+    ensures size { size (viewed result) ≡ 1 + length body.now }
 {
     match Kind::try_from(kind).unwrap() {
         Kind::Open => RecordView::Open(body.try_into().unwrap()),

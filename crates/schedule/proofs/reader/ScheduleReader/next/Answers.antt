@@ -1,6 +1,6 @@
 use Rattle.std.proofs.Common.{refl}
 use Rattle.std.proofs.lemmas.Result.{err_from_is_err_and}
-use Rattle.schedule.proofs.Bodies.{starts_with, found_end, found_none, taken, body_fits}
+use Rattle.schedule.proofs.Bodies.{starts_with, found_end, found_none, Taken, taken, body_fits}
 use Rattle.schedule.proofs.Divisions.{reading_on}
 use Rattle.schedule.proofs.reader.ScheduleReader.next.Goals as goal
 
@@ -24,9 +24,14 @@ view-record-requires c =
     let starts = starts_with here.schedule.now here.place c.in-Some.field-0 c.in-Some.ensures.lookup in
     body_fits here.schedule.now here.place _ starts _ c.in_ok-length.ensures.result
 
-pub returns : goal.returns
-returns c =
-    let here = c.args.self.now in
-    let starts = starts_with here.schedule.now here.place c.in-Some.field-0 c.in-Some.ensures.lookup in
-    let t = taken here.schedule.now here.place _ starts _ c.view-record.result c.in_ok-length.ensures.result c.view-record.ensures.records c.view-record.ensures.result in
-    record { result = t.here; after = rw t.on refl; records = t.part; law = t.law }
+took : (c : goal.After-self-1) → Taken c.args.self.now.schedule.now c.args.self.now.place c.in-Some.field-0.now (starts_with c.args.self.now.schedule.now c.args.self.now.place c.in-Some.field-0 c.in-Some.ensures.lookup) c.in_ok-length.length c.view-record.result
+took c = taken _ _ _ _ _ _ c.in_ok-length.ensures.result c.view-record.ensures.records c.view-record.ensures.result
+
+pub returns-clause-result : goal.returns-clause-result
+returns-clause-result c = (took c).here
+
+pub returns-clause-records : goal.returns-clause-records
+returns-clause-records c = (took c).part
+
+pub returns-clause-law : goal.returns-clause-law
+returns-clause-law c = (took c).law
