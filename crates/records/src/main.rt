@@ -17,9 +17,9 @@ use std::io::{Read, Write};
 fn list_record(out: &mut Vec<u8>, placed: Placed<'_>) -> io::Result<()>
     ensures { OnOk result (out.new.items ≡ out.old.items ++ entry_line (placed.entry.place, viewed placed.entry.record)) }
 {
-    let place = placed.place;
+    let Placed { place, record } = placed;
     let mut buffer = [0u8; LINE_ROOM];
-    let length = placed.record.record().line(&mut buffer).unwrap();
+    let length = record.record().line(&mut buffer).unwrap();
     write!(out, "{place} ")?;
     out.write_all(&buffer[0..length])
 }
