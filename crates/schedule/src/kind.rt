@@ -60,17 +60,17 @@ impl TryFrom<u8> for Kind {
     ghost try_from_gives = { ReadsLetter };
 
     fn try_from(letter: u8) -> Result<Self, UnknownLetter> {
-        match char::from(letter) {
-            'O' => Ok(Kind::Open),
-            'A' => Ok(Kind::StartInSlot),
-            'T' => Ok(Kind::StartWithToken),
-            'S' => Ok(Kind::Step),
-            'K' => Ok(Kind::Kill),
-            'H' => Ok(Kind::Halt),
-            'E' => Ok(Kind::EndedWell),
-            'F' => Ok(Kind::EndedFailed),
-            'R' => Ok(Kind::PutBack),
-            'D' => Ok(Kind::Finished),
+        match letter {
+            b'O' => Ok(Kind::Open),
+            b'A' => Ok(Kind::StartInSlot),
+            b'T' => Ok(Kind::StartWithToken),
+            b'S' => Ok(Kind::Step),
+            b'K' => Ok(Kind::Kill),
+            b'H' => Ok(Kind::Halt),
+            b'E' => Ok(Kind::EndedWell),
+            b'F' => Ok(Kind::EndedFailed),
+            b'R' => Ok(Kind::PutBack),
+            b'D' => Ok(Kind::Finished),
             _ => Err(UnknownLetter),
         }
     }

@@ -1,7 +1,8 @@
 // The printed line of a record: its letter, and its fields in decimal, each behind a space.
-ghost use Rattle.std.specs.Prelude.{◌≡◌, ◌+◌, ◌≤◌, ◌∷◌, length, decimal, MatchResult};
+ghost use Rattle.std.specs.Prelude.{◌≡◌, ◌+◌, ◌≤◌, true, [], ◌∷◌, length, is_some, decimal, MatchResult};
 ghost use Rattle.schedule.specs.Buffers.{Wrote};
 ghost use Rattle.schedule.specs.Lines.{line_of, printed, line_answer};
+ghost use Rattle.schedule.specs.Records.{kind_of};
 
 use crate::record::Record;
 use crate::refusal::ShortBuffer;
@@ -19,6 +20,22 @@ fn put(buffer: &mut [u8], place: usize, added: &[u8]) -> usize
     let end = place + added.len();
     buffer[place..end].copy_from_slice(added);
     end
+}
+
+// Writes a kind as its letter at the front of the buffer. That the byte is shown as one of ten letters is to be seen here.
+fn put_letter(buffer: &mut [u8], kind: u8) -> usize
+    requires room { 1 ≤ length buffer.old }
+    requires known { is_some (kind_of kind) ≡ true }
+    ensures { Wrote buffer.old 0 (kind ∷ []) buffer.new result }
+{
+    match char::from(kind) {
+        letter @ ('O' | 'A' | 'T' | 'S' | 'K' | 'H' | 'E' | 'F' | 'R' | 'D') => put(
+            buffer,
+            0,
+            &[letter as u8],
+        ),
+        _ => unreachable(),
+    }
 }
 
 // Writes a space and a field in decimal. No call of std prints into a buffer and is sure to succeed, so the digits are
@@ -39,13 +56,14 @@ fn put_field(buffer: &mut [u8], place: usize, field: u8) -> usize
     }
 }
 
-// Writes the line of a letter and its fields at the front of the buffer.
-fn put_line(buffer: &mut [u8], letter: u8, fields: &[u8]) -> usize
+// Writes the line of a kind and its fields at the front of the buffer.
+fn put_line(buffer: &mut [u8], kind: u8, fields: &[u8]) -> usize
     requires room { 24 ≤ length buffer.old }
+    requires known { is_some (kind_of kind) ≡ true }
     requires few { length fields.now ≤ 3 }
-    ensures { Wrote buffer.old 0 (line_of (letter ∷ fields.now)) buffer.new result }
+    ensures { Wrote buffer.old 0 (line_of (kind ∷ fields.now)) buffer.new result }
 {
-    let mut at = put(buffer, 0, &[letter]);
+    let mut at = put_letter(buffer, kind);
     for field in fields {
         at = put_field(buffer, at, *field);
     }

@@ -12,4 +12,4 @@ loop-field-preserved c =
 pub returns : goal.returns
 returns c =
     let fields = rw (take_all c.loop-field.field-index c.args.fields.now c.loop-field-test.false) at c.loop-field.invariant.0 in
-    wrote_both (wrote_both c.put-at.ensures fields) c.put.ensures
+    wrote_both (wrote_both c.put_letter-at.ensures fields) c.put.ensures
