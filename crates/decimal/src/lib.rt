@@ -23,5 +23,5 @@ fn value(digit: u8) -> u32
     requires { 48 ≤ digit }
     ensures { result ≡ digit - 48 }
 {
-    (digit - b'0') as u32
+    u32::from(digit - b'0')
 }

@@ -1,25 +1,15 @@
 -- What a first line says: `pipe BYTES` or `sem COUNT`, with ` keep` behind it if wanted.
-use Rattle.std.specs.Prelude.{ℕ, ◌≤◌, Bool, true, false, cond, List, length, Some, None, Ok, Err, codes, Option, Result, nat_le}
+use Rattle.std.specs.Prelude.{ℕ, Bool, true, false, cond, List, length, Some, None, Ok, Err, codes, Option, Result, nat_le}
 use Rattle.std.specs.Borrow.{Bor}
 use Rattle.decimal.specs.Counts.{count}
 use Rattle.first_line.specs.Cuts.{cut_at, is_word}
+pub use Rattle.first_line.specs.Choices.{Choice, a_pipe, a_semaphore, Few, told_choice}
 use Rattle.first_line.specs.declared.types.FirstLine.{FirstLine}
 use Rattle.first_line.specs.declared.types.PoolChoice.{PoolChoice}
-use Rattle.first_line.specs.declared.types.PoolChoice.TheVariants.{Pipe, Semaphore}
 use Rattle.first_line.specs.declared.types.Refusal.{Refusal}
 use Rattle.first_line.specs.declared.types.Refusal.TheVariants.{NoForm, BadCount, TooManyTokens}
 use Rattle.pool.specs.Meaning.{most_tokens}
 use Rattle.std.specs.Str.{bytes_eq}
-
--- The pool that is asked for: a pipe with these tokens, or a semaphore with so many.
-pub data Choice : Type 0 where
-  a_pipe : List ℕ → Choice
-  a_semaphore : ℕ → Choice
-
--- A pool may have so many tokens.
-abbrev pub Few : Choice → Type 0
-Few (a_pipe bs) = length bs ≤ most_tokens
-Few (a_semaphore n) = n ≤ most_tokens
 
 -- The pool, whether to keep going after a failure, and what stands behind the line.
 pub record Head : Type 0 where
@@ -69,10 +59,6 @@ abbrev pub head : List ℕ → Result Head Refusal
 head input = with_line (cut_at 10 input)
 
 -- What the code's answers stand for: a part of the text by its bytes.
-abbrev pub told_choice : PoolChoice → Choice
-told_choice (Pipe bytes) = a_pipe bytes.now
-told_choice (Semaphore n) = a_semaphore n
-
 abbrev pub told_pool : Result PoolChoice Refusal → Result Choice Refusal
 told_pool (Ok c) = Ok (told_choice c)
 told_pool (Err e) = Err e

@@ -1,3 +1,4 @@
+pub mod Choices
 pub mod Cuts
 pub mod Head
 pub mod Numbers

@@ -1,5 +1,6 @@
 // What a first line says, and why one is refused.
 ghost use Rattle.std.specs.Prelude.{◌≡◌};
+ghost use Rattle.first_line.specs.Choices.{Few, told_choice};
 ghost use Rattle.first_line.specs.Numbers.{number};
 
 // The pool that the line asks for.
@@ -18,6 +19,7 @@ pub struct FirstLine<'a> {
     pub keep: bool,
     // what stands behind the line
     pub rest: &'a [u8],
+    ghost few: { Few (told_choice pool) },
 }
 
 #[derive(Clone, Copy, Debug, PartialEq, Eq)]
