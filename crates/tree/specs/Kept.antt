@@ -1,5 +1,5 @@
 -- What holds of the nodes of every tree, and of a tree that still grows.
-use Rattle.std.specs.Prelude.{◌≡◌, ℕ, ◌+◌, ◌<◌, ◌≤◌, Bool, true, false, cond, ◌&&◌, List, length, ◌==◌, nat_le, slice_index}
+use Rattle.std.specs.Prelude.{◌≡◌, ℕ, ◌+◌, ◌<◌, ◌≤◌, Bool, true, false, cond, ◌&&◌, List, [], ◌∷◌, ◌++◌, length, ◌==◌, nat_le, slice_index}
 use Rattle.tree.specs.declared.node.Node.{Node}
 use Rattle.tree.specs.Nodes.{at, is_make, makes, total}
 
@@ -37,6 +37,16 @@ Sized ns = (n : ℕ) → n < length ns → steps_fit (at ns n) ≡ true
 abbrev pub Parted : List Node → Type 0
 Parted ns = (n : ℕ) → (n < length ns) × ((at ns n).wait ≡ true) → (at ns n).make + 1 < n
 
+-- what holds of the nodes of a tree, and of those of one that still grows
+pub record Shaped (ns : List Node) : Type 0 where
+  pub counted : Counted ns
+  pub topped : Topped ns
+  pub placed : Placed ns
+  pub together : Together ns
+  pub levelled : Levelled ns
+  pub sized : Sized ns
+  pub parted : Parted ns
+
 -- every make has a child, the node behind it
 abbrev pub Fed : List Node → Type 0
 Fed ns = (m : ℕ) → (m < length ns) × (is_make ns m ≡ true) → (m + 1 < length ns) × ((at ns (m + 1)).make ≡ m)
@@ -67,3 +77,12 @@ Open ns open-makes =
 -- if the last node is a make, it is the innermost open one
 abbrev pub Innermost : List Node → ℕ → Type 0
 Innermost ns m = (k : ℕ) → (k + 1 ≡ length ns) × (is_make ns k ≡ true) → m ≡ k
+
+-- what holds of the nodes of a tree that still grows: m is the innermost open make, and outer has those around it
+pub record Growable (ns : List Node) (outer : List ℕ) (m : ℕ) : Type 0 where
+  pub shaped : Shaped ns
+  pub fed : FedBefore ns
+  pub stacked : Stacked ns (outer ++ m ∷ [])
+  pub rising : Rising (outer ++ m ∷ [])
+  pub opened : Open ns (outer ++ m ∷ [])
+  pub innermost : Innermost ns m

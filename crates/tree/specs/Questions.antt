@@ -1,5 +1,6 @@
 -- The questions that a tree answers. Every rule reads a tree through these alone.
 use Rattle.std.specs.Prelude.{◌≡◌, ℕ, ◌+◌, ◌*◌, ◌<◌, ◌≤◌, Bool, false, cond, List, [], ◌∷◌, length, drop, Some, None, Ok, Err, vec_items, Option, Result, ◌==◌, nat_le, nat_lt}
+use Rattle.std.specs.Borrow.{Bor}
 use Rattle.std.specs.Global.{Vec}
 use Rattle.tree.specs.declared.node.Kind.{Kind}
 use Rattle.tree.specs.declared.node.Kind.TheVariants.{Job}
@@ -83,6 +84,11 @@ number_of NoMemory = None
 -- the answer to a question about node n, refused where n is not in the tree
 abbrev pub asked : {X : Type 0} → Tree → ℕ → X → Result X Unanswered
 asked t n x = cond (nat_lt n (count_of t)) (Ok x) (Err NotInTree)
+
+-- the node that was looked for, by its value
+abbrev pub told_node : Result (Bor Node) Unanswered → Result Node Unanswered
+told_node (Ok x) = Ok x.now
+told_node (Err e) = Err e
 
 -- the answer to the question for the children of node n, which takes memory
 abbrev pub Listed : Tree → ℕ → Result (Vec ℕ) Unanswered → Type 0

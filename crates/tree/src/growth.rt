@@ -1,11 +1,11 @@
 // What one line of a script does to a tree that grows.
 ghost use Rattle.std.specs.Prelude.{◌≡◌, ◌≤◌, [], IfOk, vec_capacity};
 ghost use Rattle.tree.specs.Growth.{start, job as job_line, make as make_line, done as done_line, wait as wait_line};
-ghost use Rattle.tree.specs.Growth.{finish as at_end, fault_number, kind_of_job};
+ghost use Rattle.tree.specs.Growth.{childless, finish as at_end, fault_number, kind_of_job};
 ghost use Rattle.tree.specs.Grown.{growth, Grew, Finished};
 
 use crate::growing::Growing;
-use crate::node::{Kind, Node};
+use crate::node::{Kind, Node, TOP};
 use crate::tree::Tree;
 use std::alloc::{AllocError, Global};
 
@@ -53,13 +53,7 @@ fn begun(mut nodes: Vec<Node>, outer: Vec<u32>) -> Growing
     requires empty { (nodes.items ≡ []) × (outer.items ≡ []) }
     ensures result { growth result ≡ start }
 {
-    nodes.push_reserved(Node {
-        kind: Kind::Make,
-        make: 0,
-        level: 0,
-        steps: 0,
-        wait: false,
-    });
+    nodes.push_reserved(TOP);
     Growing {
         nodes,
         outer,
@@ -86,9 +80,7 @@ impl Growing {
         let Growing {
             mut nodes,
             mut outer,
-            make: _,
-            steps: _,
-            wait: _,
+            ..
         } = self;
         nodes.clear();
         outer.clear();
@@ -147,20 +139,23 @@ impl Growing {
         Ok(())
     }
 
+    // Whether the innermost open make has no child yet: it is the last node.
+    fn is_childless(&self) -> bool
+        ensures result { result ≡ childless (growth self.now) }
+    {
+        self.make as usize + 1 == self.nodes.len()
+    }
+
     // The innermost open make ends.
     pub fn done(&mut self) -> Result<(), TreeFault>
         ensures after { Grew (done_line (growth self.old)) result self.old self.new }
     {
-        if self.outer.is_empty() {
-            return Err(TreeFault::Done);
-        }
-        if self.make as usize + 1 == self.nodes.len() {
+        let around = *self.outer.last().ok_or(TreeFault::Done)?;
+        if self.is_childless() {
             return Err(TreeFault::Childless);
         }
-        let Some(make) = self.outer.pop() else {
-            return Err(TreeFault::Done);
-        };
-        self.make = make;
+        self.outer.pop();
+        self.make = around;
         self.wait = false;
         Ok(())
     }
@@ -169,7 +164,7 @@ impl Growing {
     pub fn wait(&mut self)
         ensures after { growth self.new ≡ wait_line (growth self.old) }
     {
-        self.wait = self.make as usize + 1 != self.nodes.len();
+        self.wait = !self.is_childless();
     }
 
     // The whole tree.
@@ -179,16 +174,10 @@ impl Growing {
         if !self.outer.is_empty() {
             return Err(TreeFault::Done);
         }
-        if self.nodes.len() == 1 {
+        if self.is_childless() {
             return Err(TreeFault::Childless);
         }
-        let Growing {
-            nodes,
-            outer: _,
-            make: _,
-            steps,
-            wait: _,
-        } = self;
+        let Growing { nodes, steps, .. } = self;
         Ok(Tree { nodes, steps })
     }
 }

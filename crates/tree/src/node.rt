@@ -16,3 +16,12 @@ pub struct Node {
     pub steps: u32,
     pub wait: bool,
 }
+
+// Node 0 of every tree.
+pub(crate) const TOP: Node = Node {
+    kind: Kind::Make,
+    make: 0,
+    level: 0,
+    steps: 0,
+    wait: false,
+};

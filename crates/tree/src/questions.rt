@@ -1,16 +1,13 @@
 // What may be asked of a tree. A number that is not in the tree is refused, and the tree is never altered.
-ghost use Rattle.std.specs.Prelude.{◌≡◌, ℕ, ◌+◌, ◌≤◌, length, drop, IfOk};
-ghost use Rattle.tree.specs.Nodes.{total};
-ghost use Rattle.tree.specs.Questions.{count_of, kind_of, make_of, level_of, steps_of, wait_of, total_of, schedule_of, number_of, asked};
+ghost use Rattle.std.specs.Prelude.{◌≡◌, IfOk};
+ghost use Rattle.tree.specs.Nodes.{at};
+ghost use Rattle.tree.specs.Questions.{count_of, kind_of, make_of, level_of, steps_of, wait_of, total_of, schedule_of, number_of, asked, told_node};
 ghost use Rattle.tree.specs.declared.questions.Unanswered.TheVariants.{NoMemory};
-ghost use Rattle.tree.specs.Questions.{nodes_of, fresh, front_of, subtree_of, Listed, ChildlessJob, WholeSubtree};
+ghost use Rattle.tree.specs.Questions.{nodes_of, fresh, subtree_of, Listed, ChildlessJob, WholeSubtree};
 
-use crate::node::{Kind, Node};
+use crate::node::{Kind, Node, TOP};
 use crate::tree::Tree;
 use std::alloc::{AllocError, AllocFailed, Global};
-
-// Makes stand on levels 0 to 7.
-const MAX_LEVELS: u32 = 8;
 
 // Why a question has no answer.
 #[derive(Clone, Copy, PartialEq, Eq, Debug)]
@@ -31,36 +28,45 @@ impl Unanswered {
     }
 }
 
-impl<T: Drop> From<AllocFailed<T>> for Unanswered {
+impl From<AllocError> for Unanswered {
     ghost from_gives = { λ _ y. y ≡ NoMemory };
 
-    fn from(value: AllocFailed<T>) -> Unanswered {
-        let _ = value;
+    fn from(_value: AllocError) -> Unanswered {
         Unanswered::NoMemory
     }
 }
+
+impl<T: Drop> From<AllocFailed<T>> for Unanswered {
+    ghost from_gives = { λ _ y. y ≡ NoMemory };
+
+    fn from(_value: AllocFailed<T>) -> Unanswered {
+        Unanswered::NoMemory
+    }
+}
+
+// The one job of a fresh tree.
+const FIRST_JOB: Node = Node {
+    kind: Kind::Job,
+    make: 0,
+    level: 0,
+    steps: 1,
+    wait: false,
+};
 
 impl Tree {
     // One job of one step, ending well, under the top make.
     pub fn new(heap: Global) -> Result<Tree, AllocError>
         ensures result { IfOk result (λ t. nodes_of t ≡ fresh) }
     {
-        let mut nodes = Vec::with_capacity(heap, 2)?;
-        nodes.push_reserved(Node {
-            kind: Kind::Make,
-            make: 0,
-            level: 0,
-            steps: 0,
-            wait: false,
-        });
-        nodes.push_reserved(Node {
-            kind: Kind::Job,
-            make: 0,
-            level: 0,
-            steps: 1,
-            wait: false,
-        });
+        let nodes = vec![in heap; TOP, FIRST_JOB]?;
         Ok(Tree { nodes, steps: 1 })
+    }
+
+    // The node of this number.
+    fn node(&self, n: u32) -> Result<&Node, Unanswered>
+        ensures result { told_node result ≡ asked self.now n (at (nodes_of self.now) n) }
+    {
+        self.nodes.get(n as usize).ok_or(Unanswered::NotInTree)
     }
 
     pub fn count(&self) -> u32
@@ -72,52 +78,35 @@ impl Tree {
     pub fn kind(&self, n: u32) -> Result<Kind, Unanswered>
         ensures result { result ≡ asked self.now n (kind_of self.now n) }
     {
-        if n as usize >= self.nodes.len() {
-            return Err(Unanswered::NotInTree);
-        }
-        Ok(self.nodes[n as usize].kind)
+        Ok(self.node(n)?.kind)
     }
 
     // The make that the node belongs to; none for the top make.
     pub fn make(&self, n: u32) -> Result<Option<u32>, Unanswered>
         ensures result { result ≡ asked self.now n (make_of self.now n) }
     {
-        if n as usize >= self.nodes.len() {
-            return Err(Unanswered::NotInTree);
-        }
-        if n == 0 {
-            return Ok(None);
-        }
-        Ok(Some(self.nodes[n as usize].make))
+        let node = self.node(n)?;
+        Ok(if n == 0 { None } else { Some(node.make) })
     }
 
     pub fn level(&self, n: u32) -> Result<u32, Unanswered>
         ensures result { result ≡ asked self.now n (level_of self.now n) }
     {
-        if n as usize >= self.nodes.len() {
-            return Err(Unanswered::NotInTree);
-        }
-        Ok(self.nodes[n as usize].level)
+        Ok(self.node(n)?.level)
     }
 
     // The steps of a job; 0 for a make.
     pub fn steps(&self, n: u32) -> Result<u32, Unanswered>
         ensures result { result ≡ asked self.now n (steps_of self.now n) }
     {
-        if n as usize >= self.nodes.len() {
-            return Err(Unanswered::NotInTree);
-        }
-        Ok(self.nodes[n as usize].steps)
+        Ok(self.node(n)?.steps)
     }
 
     // Whether a wait stands before the node.
     pub fn wait(&self, n: u32) -> Result<bool, Unanswered>
         ensures result { result ≡ asked self.now n (wait_of self.now n) }
     {
-        if n as usize >= self.nodes.len() {
-            return Err(Unanswered::NotInTree);
-        }
-        Ok(self.nodes[n as usize].wait)
+        Ok(self.node(n)?.wait)
     }
 
     // The children of a make in order; a job has none.
@@ -125,16 +114,12 @@ impl Tree {
         ensures result { Listed self.now n result }
         ensures law { ChildlessJob self.now n }
     {
-        if n as usize >= self.nodes.len() {
-            return Err(Unanswered::NotInTree);
-        }
-        let mut found = Vec::new(heap);
-        for k in 1..self.nodes.len() {
-            if self.nodes[k].make == n {
-                found.push(k as u32)?;
-            }
-        }
-        Ok(found)
+        self.node(n)?;
+        let children = (1..self.count())
+            .zip(&self.nodes[1..])
+            .filter_map(|(k, node)| (node.make == n).then_some(k))
+            .collect(heap)?;
+        Ok(children)
     }
 
     pub fn total_steps(&self) -> u32
@@ -148,32 +133,13 @@ impl Tree {
         ensures result { result ≡ asked self.now n (subtree_of self.now n) }
         ensures law { WholeSubtree self.now }
     {
-        if n as usize >= self.nodes.len() {
-            return Err(Unanswered::NotInTree);
-        }
-        let (below, _) = self.below(n, n + 1, MAX_LEVELS);
-        Ok(self.nodes[n as usize].steps + below)
-    }
-
-    // The steps of the nodes from `first` on that are below node `n`, and the number behind the last of them.
-    fn below(&self, n: u32, first: u32, levels: u32) -> (u32, u32)
-        requires within { first ≤ count_of self.now }
-        ensures result { result.0 ≡ total (front_of n (drop first (nodes_of self.now))) }
-        ensures behind { result.1 ≡ first + length (front_of n (drop first (nodes_of self.now))) }
-    {
-        let mut sum = 0;
-        let mut next = first;
-        while (next as usize) < self.nodes.len() && self.nodes[next as usize].make >= n {
-            let node = self.nodes[next as usize];
-            sum += node.steps;
-            next += 1;
-            if node.kind == Kind::Make && levels > 0 {
-                let (more, end) = self.below(next - 1, next, levels - 1);
-                sum += more;
-                next = end;
-            }
-        }
-        (sum, next)
+        let node = self.node(n)?;
+        let below: u32 = self.nodes[n as usize + 1..]
+            .iter()
+            .take_while(|below| below.make >= n)
+            .map(|below| below.steps)
+            .sum();
+        Ok(node.steps + below)
     }
 
     // The bytes that a schedule of this tree needs.

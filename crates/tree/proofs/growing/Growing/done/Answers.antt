@@ -1,43 +1,13 @@
-use Rattle.std.proofs.Common.{reverse, vec_items, sym, refl, ap, ◌∙◌, subst, arith}
-use Rattle.std.proofs.lemmas.List.{length-reverse}
-use Rattle.std.proofs.lemmas.Bool.{eqb-true, eqb-false, false≢true}
-use Rattle.tree.specs.Growth.{closed}
-use Rattle.tree.specs.Grown.{growth}
-use Rattle.tree.proofs.Facts.{Facts, facts_of, done_facts, reverse_push, kept}
-use Rattle.tree.proofs.Said.{closed_said, closed_childless, closed_none}
+use Rattle.std.proofs.Common.{◌≡◌, [], ◌∷◌, ◌++◌, vec_items, sym, subst, arith}
+use Rattle.std.proofs.lemmas.Grind.{common_steps}
+use Rattle.std.proofs.lemmas.Bool.{eqb-false}
+use Rattle.tree.specs.Kept.{Growable}
+use Rattle.tree.proofs.Facts.{done_facts}
 use Rattle.tree.proofs.growing.Growing.done.Goals as goal
 
-pub returns-then-is_empty : goal.returns-then-is_empty
-returns-then-is_empty c =
+pub invariant_of-self-clause-growable : goal.invariant_of-self-clause-growable
+invariant_of-self-clause-growable c =
     let g = c.args.self.now in
-    record { after = (closed_none (growth g) _ (omega (arith, eqb-true _ 0 (sym c.if-is_empty.ensures), g.outer.ok.0, length-reverse (vec_items g.outer))), refl) }
-
-pub returns-then-self-len : goal.returns-then-self-len
-returns-then-self-len c =
-    let g = c.args.self.now in
-    record { after = (closed_childless (growth g) _ (omega (arith, eqb-false _ 0 (sym c.if-is_empty.ensures), g.outer.ok.0, length-reverse (vec_items g.outer))) (omega (arith, g.nodes.ok.0)), refl) }
-
-pub returns-in_default : goal.returns-in_default
-returns-in_default c = absurd (eqb-false _ 0 (sym c.if-is_empty.ensures) c.in_default.ensures.cases.0)
-
-pub invariant_of-self : goal.invariant_of-self
-invariant_of-self c = absurd (eqb-false _ 0 (sym c.if-is_empty.ensures) c.in_default.ensures.cases.0)
-
-pub invariant_of-self-2 : goal.invariant_of-self-2
-invariant_of-self-2 c =
-    let g = c.args.self.now in
-    let items = c.in-Some.ensures.items in
-    kept _ _ _ _ (g.room.0, omega (arith, g.room, c.pop.ensures.capacity))
-    (done_facts _ _ c.in-Some.make g.make (subst (λ o. Facts (vec_items g.nodes) o g.make) items (facts_of g)) (λ e. c.if-self-len.false (omega (arith, g.nodes.ok.0))))
-    g.summed
-    (λ e. absurd (false≢true e))
-
-pub returns : goal.returns
-returns c =
-    let g = c.args.self.now in
-    let around = ap reverse c.in-Some.ensures.items ∙ reverse_push (vec_items c.pop.new.self) c.in-Some.make in
-    record {
-      after =
-          ap (closed (growth g)) around ∙
-          closed_said (growth g) c.in-Some.make (reverse (vec_items c.pop.new.self)) (λ e. c.if-self-len.false (omega (arith, g.nodes.ok.0)));
-    }
+    let around = c.in_ok-around.field-0.now in
+    let items : vec_items g.outer ≡ vec_items c.pop.new.self ++ around ∷ [] = grind (arith, common_steps, c.pop.ensures.items, c.pop.ensures.value 0, c.last.ensures.value, c.ok_or.ensures.value, c.deref.ensures.value) in
+    done_facts _ _ around g.make (subst (λ o. Growable (vec_items g.nodes) o g.make) items g.growable) (eqb-false _ _ (sym c.if-is_childless.ensures.result))
