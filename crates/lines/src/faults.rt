@@ -34,9 +34,8 @@ impl WordFault {
         ensures result { result ≡ (word_values self.now).place }
     {
         match self {
-            WordFault::StrayByte(place) => *place,
-            WordFault::LongName(place) => *place,
-            WordFault::BadSteps(place) => *place,
+            WordFault::StrayByte(place) | WordFault::LongName(place) | WordFault::BadSteps(place) =>
+                *place,
         }
     }
 }

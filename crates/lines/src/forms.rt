@@ -1,4 +1,5 @@
 // The line layer: the form of a line.
+// A fault names a place, so each step that may find one is told it: errors with no place would be the same faults once more.
 ghost use Rattle.std.specs.Prelude.{◌≡◌, [], ◌∷◌};
 ghost use Rattle.lines.specs.Words.{parts};
 ghost use Rattle.lines.specs.Forms.{read_line, form_of, steps_of};
@@ -6,7 +7,7 @@ ghost use Rattle.lines.specs.Faults.{line_shown, blamed};
 
 use crate::faults::LineFault;
 use crate::place::Place;
-use crate::words::{before, check_bytes, check_name, indent, is_word, read_steps};
+use crate::words::{check_bytes, check_name, indent, read_steps};
 
 #[derive(Clone, Copy, PartialEq, Eq, Debug)]
 pub enum Form {
@@ -21,24 +22,24 @@ pub enum Form {
 fn one_word(head: &[u8], place: Place) -> Result<Form, LineFault>
     ensures result { line_shown result ≡ blamed place (form_of (head.now ∷ [])) }
 {
-    if is_word(head, b"done") {
-        return Ok(Form::Done);
+    match head {
+        b"done" => Ok(Form::Done),
+        b"wait" => Ok(Form::Wait),
+        _ => Err(LineFault::NoForm(place)),
     }
-    if is_word(head, b"wait") {
-        return Ok(Form::Wait);
-    }
-    Err(LineFault::NoForm(place))
 }
 
 // A line of two words.
 fn two_words(head: &[u8], name: &[u8], place: Place) -> Result<Form, LineFault>
     ensures result { line_shown result ≡ blamed place (form_of (head.now ∷ name.now ∷ [])) }
 {
-    if name.is_empty() || !is_word(head, b"make") {
-        return Err(LineFault::NoForm(place));
+    match head {
+        b"make" if !name.is_empty() => {
+            check_name(name, place)?;
+            Ok(Form::Make)
+        }
+        _ => Err(LineFault::NoForm(place)),
     }
-    check_name(name, place)?;
-    Ok(Form::Make)
 }
 
 // A job's steps, behind its name.
@@ -49,44 +50,31 @@ fn named_steps(name: &[u8], digits: &[u8], place: Place) -> Result<u32, LineFaul
         return Err(LineFault::NoForm(place));
     }
     check_name(name, place)?;
-    let steps = read_steps(digits, place)?;
-    Ok(steps)
+    Ok(read_steps(digits, place)?)
 }
 
 // A line of three words.
 fn three_words(head: &[u8], name: &[u8], digits: &[u8], place: Place) -> Result<Form, LineFault>
     ensures result { line_shown result ≡ blamed place (form_of (head.now ∷ name.now ∷ digits.now ∷ [])) }
 {
-    if is_word(head, b"job") {
-        let steps = named_steps(name, digits, place)?;
-        return Ok(Form::Job(steps));
+    match head {
+        b"job" => Ok(Form::Job(named_steps(name, digits, place)?)),
+        b"fail" => Ok(Form::Fail(named_steps(name, digits, place)?)),
+        _ => Err(LineFault::NoForm(place)),
     }
-    if is_word(head, b"fail") {
-        let steps = named_steps(name, digits, place)?;
-        return Ok(Form::Fail(steps));
-    }
-    Err(LineFault::NoForm(place))
 }
 
 // The form of the words, the first of which begins at the front.
 fn read_words(rest: &[u8], place: Place) -> Result<Form, LineFault>
     ensures result { line_shown result ≡ blamed place (form_of (parts 32 rest.now)) }
 {
-    let (head, more) = rest.split_at(before(rest, b' '));
-    if more.is_empty() {
-        return one_word(head, place);
+    let mut words = rest.split(|b| *b == b' ');
+    match (words.next(), words.next(), words.next(), words.next()) {
+        (Some(head), None, _, _) => one_word(head, place),
+        (Some(head), Some(name), None, _) => two_words(head, name, place),
+        (Some(head), Some(name), Some(digits), None) => three_words(head, name, digits, place),
+        _ => Err(LineFault::NoForm(place)),
     }
-    let (_, rest) = more.split_at(1);
-    let (name, more) = rest.split_at(before(rest, b' '));
-    if more.is_empty() {
-        return two_words(head, name, place);
-    }
-    let (_, rest) = more.split_at(1);
-    let (digits, more) = rest.split_at(before(rest, b' '));
-    if more.is_empty() {
-        return three_words(head, name, digits, place);
-    }
-    Err(LineFault::NoForm(place))
 }
 
 // The form of a line, whose bytes stand before its byte 10, if it has one.

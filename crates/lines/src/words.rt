@@ -1,6 +1,5 @@
 // The word layer: where words end, which bytes they may have, names and steps.
 ghost use Rattle.std.specs.Prelude.{◌≡◌, ◌≤◌, length};
-ghost use Rattle.std.specs.Str.{bytes_eq};
 ghost use Rattle.lines.specs.Words.{before as before_of, indent as indent_of, line_byte};
 ghost use Rattle.lines.specs.Faults.{BytesTold, NameTold, StepsTold};
 
@@ -13,12 +12,7 @@ pub fn before(bytes: &[u8], stop: u8) -> usize
     ensures result { result ≡ before_of stop bytes.now }
     ensures within { result ≤ length bytes.now }
 {
-    for (i, b) in bytes.iter().enumerate() {
-        if *b == stop {
-            return i;
-        }
-    }
-    bytes.len()
+    bytes.iter().take_while(|b| **b != stop).count()
 }
 
 // The number of spaces at the front.
@@ -26,39 +20,21 @@ pub(crate) fn indent(bytes: &[u8]) -> usize
     ensures result { result ≡ indent_of bytes.now }
     ensures within { result ≤ length bytes.now }
 {
-    for (i, b) in bytes.iter().enumerate() {
-        if *b != b' ' {
-            return i;
-        }
-    }
-    bytes.len()
-}
-
-pub(crate) fn is_word(word: &[u8], text: &[u8]) -> bool
-    ensures result { result ≡ bytes_eq word.now text.now }
-{
-    word == text
+    bytes.iter().take_while(|b| **b == b' ').count()
 }
 
 fn may_stand(b: u8) -> bool
     ensures result { result ≡ line_byte b }
 {
-    b == b' '
-        || (b'a' <= b && b <= b'z')
-        || (b'0' <= b && b <= b'9')
-        || b == b'_'
-        || b == b'.'
-        || b == b'-'
+    matches!(b, b' ' | b'a'..=b'z' | b'0'..=b'9' | b'_' | b'.' | b'-')
 }
 
 // Every byte may stand in a line.
 pub(crate) fn check_bytes(line: &[u8], place: Place) -> Result<(), WordFault>
     ensures result { BytesTold line.now place result }
 {
-    for b in line {
-        if !may_stand(*b) {
-            return Err(WordFault::StrayByte(place));
-        }
+    if !line.iter().all(|b| may_stand(*b)) {
+        return Err(WordFault::StrayByte(place));
     }
     Ok(())
 }
@@ -77,8 +53,5 @@ pub(crate) fn check_name(name: &[u8], place: Place) -> Result<(), WordFault>
 pub(crate) fn read_steps(digits: &[u8], place: Place) -> Result<u32, WordFault>
     ensures result { StepsTold digits.now place result }
 {
-    match read_count(digits) {
-        Some(steps) => Ok(steps),
-        None => Err(WordFault::BadSteps(place)),
-    }
+    read_count(digits).ok_or(WordFault::BadSteps(place))
 }

@@ -1,31 +1,47 @@
-use Rattle.std.proofs.Common.{◌∷◌, drop, sym, refl, ap, ◌∙◌}
+use Rattle.std.proofs.Common.{rules, tests, ◌∷◌, sym, ap, ◌∙◌}
+use Rattle.std.proofs.lemmas.Fn.{always_returns_same}
 use Rattle.lines.specs.Faults.{blamed}
 use Rattle.lines.specs.Forms.{form_of}
-use Rattle.lines.proofs.Runs.{last_part, one_part, some_parts}
+use Rattle.lines.specs.Words.{parts}
+use Rattle.lines.proofs.Runs.{some_parts}
+use Rattle.lines.proofs.Yielding.{came_last, came_more, is_space}
 use Rattle.lines.proofs.forms.read_words.Goals as goal
 
-pub returns-then-is_empty : goal.returns-then-is_empty
-returns-then-is_empty c =
-    let head = last_part 32 _ _ _ _ c.before-2.ensures.result c.before-2.ensures.within c.split_at.ensures.front c.split_at.ensures.back c.if-is_empty.ensures in
-    record { result = c.one_word.ensures.result ∙ ap (λ ws. blamed c.args.place (form_of ws)) (sym head) }
+pub returns-in-Some-None-default-default : goal.returns-in-Some-None-default-default
+returns-in-Some-None-default-default c =
+    let arm = c.in-Some-None-default-default in
+    let one = arm.ensures.steps.2 is_space (always_returns_same _ _ _ (λ a r q k. search (rules, tests))) in
+    let head = came_last _ _ _ _ arm.ensures.steps.1 one.1 arm.ensures'.steps.0 in
+    record { result = c.one_word.ensures.result ∙ ap (λ ws. blamed c.args.place (form_of ws)) (sym (ap (parts 32) (sym c.split-words.ensures.rest) ∙ head)) }
 
-pub returns-then-is_empty-2 : goal.returns-then-is_empty-2
-returns-then-is_empty-2 c =
-    let head = one_part 32 _ _ _ _ c.before-2.ensures.result c.before-2.ensures.within c.split_at.ensures.front c.split_at.ensures.back _ c.if-is_empty.ensures c.split_at-2.ensures.back in
-    let name = last_part 32 _ _ _ _ c.before-3.ensures.result c.before-3.ensures.within c.split_at-3.ensures.front c.split_at-3.ensures.back c.if-is_empty-2.ensures in
-    record { result = c.two_words.ensures.result ∙ ap (λ ws. blamed c.args.place (form_of ws)) (sym (head ∙ ap (λ ws. c.split_at.result.0.now ∷ ws) name)) }
+pub returns-in-Some-Some-None-default : goal.returns-in-Some-Some-None-default
+returns-in-Some-Some-None-default c =
+    let arm = c.in-Some-Some-None-default in
+    let one = arm.ensures.steps.2 is_space (always_returns_same _ _ _ (λ a r q k. search (rules, tests))) in
+    let two = arm.ensures'.steps.2 is_space one.0 in
+    let head = came_more _ _ _ _ arm.ensures.steps.1 one.1 arm.ensures'.steps.0 in
+    let name = came_last _ _ _ _ arm.ensures'.steps.1 two.1 arm.ensures''.steps.0 in
+    record { result = c.two_words.ensures.result ∙ ap (λ ws. blamed c.args.place (form_of ws)) (sym (ap (parts 32) (sym c.split-words.ensures.rest) ∙ head ∙ ap (λ ws. arm.head.now ∷ ws) name)) }
 
-pub returns-then-is_empty-3 : goal.returns-then-is_empty-3
-returns-then-is_empty-3 c =
-    let head = one_part 32 _ _ _ _ c.before-2.ensures.result c.before-2.ensures.within c.split_at.ensures.front c.split_at.ensures.back _ c.if-is_empty.ensures c.split_at-2.ensures.back in
-    let name = one_part 32 _ _ _ _ c.before-3.ensures.result c.before-3.ensures.within c.split_at-3.ensures.front c.split_at-3.ensures.back _ c.if-is_empty-2.ensures c.split_at-4.ensures.back in
-    let digits = last_part 32 _ _ _ _ c.before-4.ensures.result c.before-4.ensures.within c.split_at-5.ensures.front c.split_at-5.ensures.back c.if-is_empty-3.ensures in
-    record { result = c.three_words.ensures.result ∙ ap (λ ws. blamed c.args.place (form_of ws)) (sym (head ∙ ap (λ ws. c.split_at.result.0.now ∷ ws) (name ∙ ap (λ ws. c.split_at-3.result.0.now ∷ ws) digits))) }
+pub returns-in-Some-Some-Some-None : goal.returns-in-Some-Some-Some-None
+returns-in-Some-Some-Some-None c =
+    let arm = c.in-Some-Some-Some-None in
+    let one = arm.ensures.steps.2 is_space (always_returns_same _ _ _ (λ a r q k. search (rules, tests))) in
+    let two = arm.ensures'.steps.2 is_space one.0 in
+    let three = arm.ensures''.steps.2 is_space two.0 in
+    let head = came_more _ _ _ _ arm.ensures.steps.1 one.1 arm.ensures'.steps.0 in
+    let name = came_more _ _ _ _ arm.ensures'.steps.1 two.1 arm.ensures''.steps.0 in
+    let digits = came_last _ _ _ _ arm.ensures''.steps.1 three.1 arm.ensures'''.steps.0 in
+    record { result = c.three_words.ensures.result ∙ ap (λ ws. blamed c.args.place (form_of ws)) (sym (ap (parts 32) (sym c.split-words.ensures.rest) ∙ head ∙ ap (λ ws. arm.head.now ∷ ws) name ∙ ap (λ ws. arm.head.now ∷ arm.name.now ∷ ws) digits)) }
 
-pub returns : goal.returns
-returns c =
-    let head = one_part 32 _ _ _ _ c.before-2.ensures.result c.before-2.ensures.within c.split_at.ensures.front c.split_at.ensures.back _ c.if-is_empty.ensures c.split_at-2.ensures.back in
-    let name = one_part 32 _ _ _ _ c.before-3.ensures.result c.before-3.ensures.within c.split_at-3.ensures.front c.split_at-3.ensures.back _ c.if-is_empty-2.ensures c.split_at-4.ensures.back in
-    let digits = one_part 32 _ _ _ _ c.before-4.ensures.result c.before-4.ensures.within c.split_at-5.ensures.front c.split_at-5.ensures.back (drop 1 c.split_at-5.result.1.now) c.if-is_empty-3.ensures refl in
-    let four = some_parts 32 (drop 1 c.split_at-5.result.1.now) in
-    record { result = ap (λ ws. blamed c.args.place (form_of ws)) (sym (head ∙ ap (λ ws. c.split_at.result.0.now ∷ ws) (name ∙ ap (λ ws. c.split_at-3.result.0.now ∷ ws) (digits ∙ ap (λ ws. c.split_at-5.result.0.now ∷ ws) four.2)))) }
+pub returns-in_default : goal.returns-in_default
+returns-in_default c =
+    let arm = c.in_default in
+    let one = arm.ensures.steps.2 is_space (always_returns_same _ _ _ (λ a r q k. search (rules, tests))) in
+    let two = arm.ensures'.steps.2 is_space one.0 in
+    let three = arm.ensures''.steps.2 is_space two.0 in
+    let head = came_more _ _ _ _ arm.ensures.steps.1 one.1 arm.ensures'.steps.0 in
+    let name = came_more _ _ _ _ arm.ensures'.steps.1 two.1 arm.ensures''.steps.0 in
+    let digits = came_more _ _ _ _ arm.ensures''.steps.1 three.1 arm.ensures'''.steps.0 in
+    let four = some_parts 32 _ in
+    record { result = ap (λ ws. blamed c.args.place (form_of ws)) (sym (ap (parts 32) (sym c.split-words.ensures.rest) ∙ head ∙ ap (λ ws. arm.field-0-0.now ∷ ws) name ∙ ap (λ ws. arm.field-0-0.now ∷ arm.field-0-1.now ∷ ws) (digits ∙ ap (λ ws. arm.field-0-2.now ∷ ws) four.2))) }

@@ -1,17 +1,13 @@
-use Rattle.std.proofs.Common.{◌≡◌, get_or, ap, arith}
-use Rattle.std.proofs.lemmas.List.{drop_all}
-use Rattle.lines.specs.Words.{before}
-use Rattle.lines.proofs.Runs.{before_more, before_here}
+use Rattle.std.proofs.Common.{rules, tests, ℕ, not, eqb, ◌∙◌}
+use Rattle.std.proofs.lemmas.Iterator.{YieldsList-from_slice}
+use Rattle.std.proofs.lemmas.Iterator.Consumers.{YieldsList-at, count_from_yields_List}
+use Rattle.std.proofs.lemmas.Iterator.Search.{YieldsList-from_take_while}
+use Rattle.std.proofs.lemmas.List.Folds.{length-prefix_len}
+use Rattle.lines.proofs.Yielding.{before_len}
 use Rattle.lines.proofs.words.before.Goals as goal
 
-pub returns-then-b-stop : goal.returns-then-b-stop
-returns-then-b-stop c =
-    let here : get_or c.args.bytes.now c.loop-i.i 0 ≡ c.args.stop = omega arith in
-    record { result = omega (arith, before_here c.args.bytes.now c.loop-i.i c.loop-i-test.true c.args.stop here); within = omega arith }
-
-pub loop-i-preserved : goal.loop-i-preserved
-loop-i-preserved c = omega (arith, c.loop-i.invariant, before_more c.args.bytes.now c.loop-i.i c.loop-i-test.true c.args.stop c.if-b-stop.false)
-
-pub returns : goal.returns
-returns c =
-    record { result = omega (arith, c.loop-i.invariant, c.loop-i.auto.i-end, ap (before c.args.stop) (drop_all c.loop-i.i c.args.bytes.now c.loop-i-test.false)); within = omega arith }
+pub returns-clause-result : goal.returns-clause-result
+returns-clause-result c =
+    count_from_yields_List c.take_while.result _ c.count.ensures.ran
+    (YieldsList-from_take_while _ (λ (x : ℕ). not (eqb x c.args.stop)) (YieldsList-at c.take_while.ensures.source (YieldsList-from_slice c.args.bytes.now c.iter.ensures.rest)) c.take_while.ensures.closure c.take_while.ensures.done (λ x b q k. search (rules, tests))) ∙
+    length-prefix_len (λ (x : ℕ). not (eqb x c.args.stop)) c.args.bytes.now ∙ before_len c.args.stop c.args.bytes.now

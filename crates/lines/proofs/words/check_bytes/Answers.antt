@@ -1,17 +1,20 @@
-use Rattle.std.proofs.Common.{sym, refl, ap, ◌∙◌}
-use Rattle.std.proofs.lemmas.List.{drop_all}
+use Rattle.std.proofs.Common.{rules, tests, ◌≡◌, sym, refl, ◌∙◌}
+use Rattle.std.proofs.lemmas.Iterator.{YieldsList-from_slice}
+use Rattle.std.proofs.lemmas.Iterator.Search.{all_from_yields_List}
 use Rattle.lines.specs.Words.{every, line_byte}
-use Rattle.lines.proofs.Runs.{every_more, every_not}
+use Rattle.lines.proofs.Yielding.{every_all}
 use Rattle.lines.proofs.words.check_bytes.Goals as goal
+use Rattle.lines.proofs.words.check_bytes.Goals.{After-all}
 
-pub returns-then-not-may_stand : goal.returns-then-not-may_stand
-returns-then-not-may_stand c =
-    record { result = (sym c.loop-b.invariant ∙ every_not c.args.line.now c.loop-b.b-index c.loop-b-test.true line_byte (sym c.if-not-may_stand.ensures.result), refl) }
+-- the test of all bytes
+tested : (c : After-all) → c.all.result ≡ every line_byte c.args.line.now
+tested c =
+    all_from_yields_List line_byte _ _ c.all.result c.all.ensures.ran (YieldsList-from_slice c.args.line.now c.iter.ensures.rest) (λ x b q k. search (rules, tests)) ∙
+    every_all line_byte c.args.line.now
 
-pub loop-b-preserved : goal.loop-b-preserved
-loop-b-preserved c =
-    sym (every_more c.args.line.now c.loop-b.b-index c.loop-b-test.true line_byte (sym c.if-not-may_stand.ensures.result)) ∙ c.loop-b.invariant
+pub returns-then-not-all : goal.returns-then-not-all
+returns-then-not-all c =
+    record { result = (sym (tested (goal.at.returns-then-not-all c).After-all) ∙ c.if-not-all.true, refl) }
 
 pub returns : goal.returns
-returns c =
-    record { result = sym c.loop-b.invariant ∙ ap (every line_byte) (drop_all c.loop-b.b-index c.args.line.now c.loop-b-test.false) }
+returns c = record { result = sym (tested (goal.at.returns c).After-all) ∙ c.if-not-all.false }

@@ -1,16 +1,13 @@
-use Rattle.std.proofs.Common.{ap, arith}
-use Rattle.std.proofs.lemmas.List.{drop_all}
-use Rattle.lines.specs.Words.{indent}
-use Rattle.lines.proofs.Runs.{indent_more, indent_here}
+use Rattle.std.proofs.Common.{rules, tests, ℕ, eqb, ◌∙◌}
+use Rattle.std.proofs.lemmas.Iterator.{YieldsList-from_slice}
+use Rattle.std.proofs.lemmas.Iterator.Consumers.{YieldsList-at, count_from_yields_List}
+use Rattle.std.proofs.lemmas.Iterator.Search.{YieldsList-from_take_while}
+use Rattle.std.proofs.lemmas.List.Folds.{length-prefix_len}
+use Rattle.lines.proofs.Yielding.{indent_len}
 use Rattle.lines.proofs.words.indent.Goals as goal
 
-pub returns-then-b-ne32 : goal.returns-then-b-ne32
-returns-then-b-ne32 c =
-    record { result = omega (arith, c.loop-i.invariant, indent_here c.args.bytes.now c.loop-i.i c.loop-i-test.true c.if-b-ne32.true); within = omega arith }
-
-pub loop-i-preserved : goal.loop-i-preserved
-loop-i-preserved c = omega (arith, c.loop-i.invariant, indent_more c.args.bytes.now c.loop-i.i c.loop-i-test.true c.if-b-ne32.false)
-
-pub returns : goal.returns
-returns c =
-    record { result = omega (arith, c.loop-i.invariant, c.loop-i.auto.i-end, ap indent (drop_all c.loop-i.i c.args.bytes.now c.loop-i-test.false)); within = omega arith }
+pub returns-clause-result : goal.returns-clause-result
+returns-clause-result c =
+    count_from_yields_List c.take_while.result _ c.count.ensures.ran
+    (YieldsList-from_take_while _ (λ (x : ℕ). eqb x 32) (YieldsList-at c.take_while.ensures.source (YieldsList-from_slice c.args.bytes.now c.iter.ensures.rest)) c.take_while.ensures.closure c.take_while.ensures.done (λ x b q k. search (rules, tests))) ∙
+    length-prefix_len (λ (x : ℕ). eqb x 32) c.args.bytes.now ∙ indent_len c.args.bytes.now
