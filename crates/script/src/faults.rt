@@ -75,8 +75,7 @@ impl From<ScriptFault> for ReadError {
 impl From<AllocError> for ReadError {
     ghost from_gives = { λ _ y. y ≡ NoMemory };
 
-    fn from(value: AllocError) -> ReadError {
-        let _ = value;
+    fn from(_value: AllocError) -> ReadError {
         ReadError::NoMemory
     }
 }

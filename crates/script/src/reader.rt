@@ -25,10 +25,9 @@ fn next_line(text: &[u8], place: &mut Place) -> Result<Option<Form>, LineFault>
     if here.byte >= text.len() {
         return Ok(None);
     }
-    let (_, rest) = text.split_at(here.byte);
+    let rest = &text[here.byte..];
     let n = before(rest, b'\n');
-    let (line, _) = rest.split_at(n);
-    let form = read_line(line, n < rest.len(), here)?;
+    let form = read_line(&rest[..n], n < rest.len(), here)?;
     *place = Place {
         line: here.line + 1,
         byte: here.byte + n + 1,
@@ -40,10 +39,7 @@ fn next_line(text: &[u8], place: &mut Place) -> Result<Option<Form>, LineFault>
 fn of_body(form: Option<Form>) -> Option<Form>
     ensures result { result ≡ in_body form }
 {
-    match form {
-        Some(Form::Done) => None,
-        _ => form,
-    }
+    form.filter(|form| *form != Form::Done)
 }
 
 // What a form does to the tree, or the fault of the line at the place.
@@ -60,10 +56,7 @@ fn grow(tree: &mut Growing, form: Form, place: Place) -> Result<(), ScriptFault>
             Ok(())
         }
     };
-    match grown {
-        Ok(()) => Ok(()),
-        Err(fault) => Err(ScriptFault::OfTree(fault, place)),
-    }
+    grown.map_err(|fault| ScriptFault::OfTree(fault, place))
 }
 
 impl Reader<'_> {
@@ -110,10 +103,10 @@ impl Reader<'_> {
         ensures unaltered { self.new.text ≡ self.old.text }
     {
         let place = self.place;
-        match next_line(self.text, &mut self.place)? {
-            Some(form) => grow(tree, form, place),
-            None => Err(ScriptFault::OfTree(TreeFault::Done, place)),
-        }
+        let Some(form) = next_line(self.text, &mut self.place)? else {
+            return Err(ScriptFault::OfTree(TreeFault::Done, place));
+        };
+        grow(tree, form, place)
     }
 
     // The whole text, from the place on.
@@ -135,8 +128,6 @@ impl Reader<'_> {
 fn finish(tree: Growing, place: Place) -> Result<Tree, ScriptFault>
     ensures result { AtEnd (at_finish (growth tree)) place result }
 {
-    match tree.finish() {
-        Ok(whole) => Ok(whole),
-        Err(fault) => Err(ScriptFault::OfTree(fault, place)),
-    }
+    tree.finish()
+        .map_err(|fault| ScriptFault::OfTree(fault, place))
 }

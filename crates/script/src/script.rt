@@ -20,8 +20,7 @@ pub fn read_with(tree: &mut Tree, growing: Growing, text: &[u8]) -> Result<(), S
     }
     let place = Place { line: 1, byte: 0 };
     let reader = Reader { text, place };
-    let whole = reader.whole(growing.restart())?;
-    *tree = whole;
+    *tree = reader.whole(growing.restart())?;
     Ok(())
 }
 

@@ -3,8 +3,8 @@ use Rattle.std.proofs.Common.{◌≡◌, ℕ, true, false, List, [], ◌∷◌, 
 use denote.RawPtr.{null_ptr}
 use Rattle.rules.specs.Plans.{Plan, plan_of}
 use Rattle.std.proofs.lemmas.Bool.{false≢true}
-use Rattle.tree.proofs.Facts.{Facts, start_facts, job_facts, make_facts, done_facts, all_fed}
-use Rattle.tree.specs.Kept.{Fed}
+use Rattle.tree.proofs.Facts.{start_facts, job_facts, make_facts, done_facts, all_fed}
+use Rattle.tree.specs.Kept.{Fed, Growable}
 use Rattle.tree.specs.Nodes.{top, total}
 use Rattle.tree.specs.Questions.{nodes_of}
 use Rattle.tree.specs.declared.node.Kind.{Kind}
@@ -25,7 +25,7 @@ abbrev pub nodes_z : List Node
 nodes_z = top ∷ node Job 0 0 2 ∷ node Make 0 1 0 ∷ node Job 2 1 1 ∷ node Fail 2 1 2 ∷ node Job 2 1 1 ∷ after_wait ∷ []
 
 -- they are the nodes of a tree: they grow from the top make, line by line
-pub facts_z : Facts nodes_z [] 0
+pub facts_z : Growable nodes_z [] 0
 unfolding total
 facts_z =
     let none : false ≡ true → ⊥ = false≢true in
@@ -51,13 +51,13 @@ abbrev pub tree_z : Tree
 tree_z = record {
   nodes = record { ptr = null_ptr; len = 7; cap = 200; alloc = record { memory = record { seal = tt } }; items = nodes_z; ok = (refl, lit≤ tt); small = lit< tt };
   steps = 7;
-  counted = facts_z.0;
-  topped = facts_z.1;
-  placed = facts_z.2;
-  together = facts_z.3;
-  levelled = facts_z.4;
-  sized = facts_z.5;
-  parted = facts_z.6;
+  counted = facts_z.shaped.counted;
+  topped = facts_z.shaped.topped;
+  placed = facts_z.shaped.placed;
+  together = facts_z.shaped.together;
+  levelled = facts_z.shaped.levelled;
+  sized = facts_z.shaped.sized;
+  parted = facts_z.shaped.parted;
   fed = fed_z;
   summed = sum_z;
 }

@@ -1,6 +1,10 @@
+use Rattle.std.proofs.Common.{◌+◌, ◌-◌, length, take, drop, take_all, refl, arith}
+use Rattle.std.proofs.lemmas.List.{length-drop}
 use Rattle.script.proofs.Onward.{line_found}
 use Rattle.script.proofs.reader.next_line.Goals as goal
 
 pub returns : goal.returns
 returns c =
-    record { after = line_found c.args.text.now c.args.place.now _ _ _ _ c.split_at.ensures.back c.before-n.ensures.result c.before-n.ensures.within c.split_at-2.ensures.front c.in_ok-form.ensures.result }
+    let text = c.args.text.now in
+    let at = c.args.place.now.byte in
+    record { after = line_found text c.args.place.now _ _ _ _ (take_all (length text - at) (drop at text) (simp length-drop (omega arith))) c.before-n.ensures.result c.before-n.ensures.within refl c.in_ok-form.ensures.result }

@@ -30,12 +30,12 @@ whole-requires c =
       top = ap (λ (g : Growth). length g.outer) c.restart.ensures.result;
     }
 
-pub returns-in_err-whole : goal.returns-in_err-whole
-returns-in_err-whole c =
+pub returns-in_err-tree : goal.returns-in_err-tree
+returns-in_err-tree c =
     let e = err_from_is_err_and c.from_residual.result c.from_residual.ensures.1 in
     let text = c.args.text.now in
     record {
-      result = rw (e.1, e.2) (by_lines text _ c.if-text-gt-MAX_BYTES.false c.restart.ensures.result ∙ c.in_err-whole.ensures.result, refl);
+      result = rw (e.1, e.2) (by_lines text _ c.if-text-gt-MAX_BYTES.false c.restart.ensures.result ∙ c.in_err-tree.ensures.result, refl);
       law = exact text;
     }
 
@@ -43,6 +43,6 @@ pub returns : goal.returns
 returns c =
     let text = c.args.text.now in
     record {
-      result = (exact text).is_script (nodes_of c.in_ok-whole.whole) (by_lines text _ c.if-text-gt-MAX_BYTES.false c.restart.ensures.result ∙ c.in_ok-whole.ensures.result);
+      result = (exact text).is_script (nodes_of c.in_ok-tree.field-0) (by_lines text _ c.if-text-gt-MAX_BYTES.false c.restart.ensures.result ∙ c.in_ok-tree.ensures.result);
       law = exact text;
     }

@@ -16,18 +16,18 @@ returns-in_err-form c =
       unaltered = refl;
     }
 
-pub returns-in-Some : goal.returns-in-Some
-returns-in-Some c =
+pub returns : goal.returns
+returns c =
     let r = c.args.self.now in
     record {
       result = close_read r.text.now (growth c.args.tree.now) r.place _ c.in-Some.form c.in_ok-form.field-0 c.requires.within c.requires.stopped c.in-Some.is c.in_ok-form.ensures.after c.grow.result _ c.grow.ensures.after;
       unaltered = refl;
     }
 
-pub returns-in-None : goal.returns-in-None
-returns-in-None c =
+pub returns-in_default : goal.returns-in_default
+returns-in_default c =
     let r = c.args.self.now in
-    let none = subst (λ o. Next r.text.now r.place (Ok o) c.next_line.new.place) c.in-None.is c.in_ok-form.ensures.after in
+    let none = subst (λ o. Next r.text.now r.place (Ok o) c.next_line.new.place) c.in_default.is c.in_ok-form.ensures.after in
     record {
       result = reading_end r.text.now r.place (growth c.args.tree.now) none.0 ∙ ap (blamed r.place) (end_nested (growth c.args.tree.now) c.requires.nested);
       unaltered = refl;
