@@ -6,4 +6,6 @@ mod faults;
 #[cfg(test)]
 mod limits;
 #[cfg(test)]
+mod reading;
+#[cfg(test)]
 mod trees;
