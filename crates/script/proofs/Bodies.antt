@@ -1,5 +1,5 @@
 -- What reading a body keeps, line by line.
-use Rattle.std.proofs.Common.{◌≡◌, ℕ, ◌+◌, ◌-◌, ◌<◌, ◌≤◌, Bool, true, false, cond, ◌&&◌, ltb, leb, List, [], ◌∷◌, length, drop, Some, None, Ok, Err, Option, Result, sym, refl, ap, ◌∙◌, subst, arith}
+use Rattle.std.proofs.Common.{◌≡◌, ℕ, ◌+◌, ◌<◌, Bool, true, false, cond, ◌&&◌, ltb, leb, List, [], ◌∷◌, length, drop, Some, None, Ok, Err, Option, Result, sym, refl, ap, ◌∙◌, subst, arith}
 use Rattle.std.proofs.lemmas.List.{length-drop}
 use Rattle.std.proofs.lemmas.Bool.{ltb-true}
 use Rattle.lines.specs.declared.forms.Form.{Form}
@@ -11,7 +11,7 @@ use Rattle.tree.specs.Growth.{Growth, job, make, done, closed, childless, finish
 use Rattle.tree.specs.Nodes.{total}
 use Rattle.script.specs.Reading.{then, grow, past, reading}
 use Rattle.script.specs.declared.faults.ScriptFault.{ScriptFault}
-use Rattle.script.specs.Steps.{Within, line_at, Line, Ends, Next, Stopped, Looked, in_body, Went, Grown, Closed, Whole, AtEnd}
+use Rattle.script.specs.Steps.{Within, line_at, Line, Ends, Next, Stopped, Looked, Went, Grown, Closed, Whole, AtEnd}
 use Rattle.tree.specs.declared.tree.Tree.{Tree}
 use Rattle.script.specs.Values.{script_values}
 use Rattle.script.proofs.Onward.{reading_line, reading_end, past_inside}
@@ -25,22 +25,10 @@ pub no_line : (text : List ℕ) (p : Place) (f : Form) → Ends text p → Line 
 no_line text p f e line =
     omega (arith, ltb-true (before 10 (drop p.byte text)) (length (drop p.byte text)) line.0, length-drop p.byte text)
 
--- what a look makes of the line
-pub looked : (text : List ℕ) (p q : Place) (o : Option Form) → Next text p (Ok o) q → Looked text p (Ok (in_body o))
-looked text p q None h = λ f line. absurd (no_line text p f h.0 line)
-looked text p q (Some (Job d)) h = (h.0, λ e. let z : ◌≡◌ {A = ℕ} 0 1 = cc in omega arith)
-looked text p q (Some (Fail d)) h = (h.0, λ e. let z : ◌≡◌ {A = ℕ} 0 1 = cc in omega arith)
-looked text p q (Some Make) h = (h.0, λ e. let z : ◌≡◌ {A = ℕ} 0 1 = cc in omega arith)
-looked text p q (Some Done) h = λ f line. one_form text p f Done line h.0
-looked text p q (Some Wait) h = (h.0, λ e. let z : ◌≡◌ {A = ℕ} 0 1 = cc in omega arith)
-
 -- the place moves behind the line that was looked at
 pub moved : (text : List ℕ) (p q : Place) (f : Form) (o : Option Form) → Line text p f → Next text p (Ok o) q → q ≡ past p (line_at text p)
 moved text p q f None line h = absurd (no_line text p f h.0 line)
 moved text p q f (Some k) line h = h.1
-
-pub went_start : (text : List ℕ) (g : Growth) (p : Place) → Within text p → Went text g p g p
-went_start text g p w = record { same = refl; within = w; forward = omega arith }
 
 pub went_on : (text : List ℕ) (g h k : Growth) (p q r : Place) → Went text g p h q → Went text h q k r → Went text g p k r
 went_on text g h k p q r a b =
@@ -58,9 +46,6 @@ module _ (text : List ℕ) (g : Growth) (p : Place) (f : Form) (line : Line text
 
   pub line_fault : (v : Fault) → blamed p (grow f g) ≡ Err v → reading text g p ≡ Err v
   line_fault v e = reading_line text p g f line ∙ ap (λ r. then r (λ h. reading text h (past p (line_at text p)))) e
-
-  pub line_forward : (q : Place) → q ≡ past p (line_at text p) → p.byte < q.byte
-  line_forward q e = omega (arith, ap (λ r. r.byte) e)
 
 -- a test that let a result through
 pub passed : {X : Type 0} (b : Bool) (r : Result X ℕ) (n : ℕ) (x : X) → cond b r (Err n) ≡ Ok x → r ≡ Ok x
@@ -147,10 +132,6 @@ close_read text g p q f read w stop is next (Err e) h grown =
 
 pub tail_same : {x y : ℕ} {xs ys zs : List ℕ} → zs ≡ x ∷ xs → zs ≡ y ∷ ys → xs ≡ ys
 tail_same {x} {y} {xs} {ys} {zs} a b = cc
-
--- fewer bytes are left
-pub shorter : (s t : List ℕ) (a b : ℕ) → t ≡ s → a < b → b ≤ length t → length t - b < length s - a
-shorter s t a b e lt le = omega (arith, ap length e)
 
 -- the end of the text, once its lines are read
 pub whole_end : (text : List ℕ) (g h : Growth) (p q : Place) → reading text g p ≡ reading text h q → Ends text q → (r : Result Tree ScriptFault) → AtEnd (finish h) q r → Whole text g p r

@@ -1,6 +1,6 @@
 -- What each call of a tree that grows keeps of its nodes and its open makes.
-use Rattle.std.proofs.Common.{◌≡◌, ℕ, ◌+◌, ◌<◌, ◌≤◌, Bool, true, false, cond, ◌&&◌, eqb, leb, List, [], ◌∷◌, ◌++◌, reverse, length, get_or, vec_items, sym, refl, ap, ◌∙◌, subst, ⊎_elim, add-zero, arith}
-use Rattle.std.proofs.lemmas.List.{get_or_push, length_push, reverse-append, length-reverse}
+use Rattle.std.proofs.Common.{◌≡◌, ℕ, ◌+◌, ◌<◌, ◌≤◌, Bool, true, false, cond, ◌&&◌, eqb, leb, List, [], ◌∷◌, ◌++◌, length, get_or, vec_items, sym, refl, ap, ◌∙◌, subst, ⊎_elim, add-zero, arith}
+use Rattle.std.proofs.lemmas.List.{get_or_push, length_push, length-reverse}
 use Rattle.std.proofs.lemmas.Bool.{cases_lt, both_ways, false≢true, and_from, le-leb}
 use Rattle.tree.specs.declared.growing.Growing.{Growing}
 use Rattle.tree.specs.declared.node.Node.{Node}
@@ -15,9 +15,6 @@ use Rattle.tree.proofs.Push
 -- the open makes
 abbrev pub opens : List ℕ → ℕ → List ℕ
 opens outer m = outer ++ m ∷ []
-
-pub reverse_push : {X : Type 0} (xs : List X) (x : X) → reverse (xs ++ x ∷ []) ≡ x ∷ reverse xs
-reverse_push xs x = reverse-append xs (x ∷ [])
 
 module _ (ns : List Node) (outer : List ℕ) (m : ℕ) (facts : Growable ns outer m) where
   -- the innermost open make

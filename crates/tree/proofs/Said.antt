@@ -1,6 +1,6 @@
--- What the lines of a script do where nothing forbids them, and which fault comes where something does.
-use Rattle.std.proofs.Common.{◌≡◌, ℕ, ◌+◌, ◌<◌, ◌≤◌, Bool, false, leb, List, [], ◌∷◌, ◌++◌, length, Ok, Err, refl, arith}
-use Rattle.std.proofs.lemmas.Bool.{lt-ltb, le-ltb, le-leb, eq-eqb, ne_eqb, and_from}
+-- What the lines of a script do where nothing forbids them.
+use Rattle.std.proofs.Common.{◌≡◌, ℕ, ◌+◌, ◌<◌, ◌≤◌, Bool, false, leb, List, [], ◌∷◌, ◌++◌, length, Ok, arith}
+use Rattle.std.proofs.lemmas.Bool.{lt-ltb, le-leb, ne_eqb, and_from}
 use Rattle.tree.specs.Nodes.{total}
 use Rattle.tree.specs.Growth.{Growth, job, make, closed, ended, job_node, make_node}
 
@@ -11,31 +11,9 @@ module _ (g : Growth) where
   pub make_said : length g.outer < 7 → length g.nodes < 200 → make g ≡ Ok (record { nodes = g.nodes ++ make_node g ∷ []; make = length g.nodes; outer = g.make ∷ g.outer; wait = false })
   make_said o n = rw (lt-ltb (length g.outer) 7 o, lt-ltb (length g.nodes) 200 n)
 
-  pub make_deep : 7 ≤ length g.outer → make g ≡ Err 6
-  make_deep o = rw (le-ltb (length g.outer) 7 o)
-
-  pub make_full : length g.outer < 7 → 200 ≤ length g.nodes → make g ≡ Err 7
-  make_full o n = rw (lt-ltb (length g.outer) 7 o, le-ltb (length g.nodes) 200 n)
-
   pub closed_said : (m : ℕ) (ms : List ℕ) → (g.make + 1 ≡ length g.nodes → ⊥) → closed g (m ∷ ms) ≡ Ok (record { nodes = g.nodes; make = m; outer = ms; wait = false })
   closed_said m ms h = rw (ne_eqb (g.make + 1) (length g.nodes) h)
-
-  pub closed_childless : (ms : List ℕ) → 0 < length ms → g.make + 1 ≡ length g.nodes → closed g ms ≡ Err 10
-  closed_childless [] l h = absurd (omega arith)
-  closed_childless (m ∷ ms) l h = rw (eq-eqb (g.make + 1) (length g.nodes) h)
-
-  pub closed_none : (ms : List ℕ) → length ms ≡ 0 → closed g ms ≡ Err 9
-  closed_none [] e = refl
-  closed_none (m ∷ ms) e = absurd (omega arith)
 
   pub ended_said : (ms : List ℕ) → length ms ≡ 0 → (g.make + 1 ≡ length g.nodes → ⊥) → ended g ms ≡ Ok g.nodes
   ended_said [] e h = rw (ne_eqb (g.make + 1) (length g.nodes) h)
   ended_said (m ∷ ms) e h = absurd (omega arith)
-
-  pub ended_childless : (ms : List ℕ) → length ms ≡ 0 → g.make + 1 ≡ length g.nodes → ended g ms ≡ Err 10
-  ended_childless [] e h = rw (eq-eqb (g.make + 1) (length g.nodes) h)
-  ended_childless (m ∷ ms) e h = absurd (omega arith)
-
-  pub ended_open : (ms : List ℕ) → 0 < length ms → ended g ms ≡ Err 9
-  ended_open [] l = absurd (omega arith)
-  ended_open (m ∷ ms) l = refl

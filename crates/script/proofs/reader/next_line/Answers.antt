@@ -1,4 +1,4 @@
-use Rattle.std.proofs.Common.{◌+◌, ◌-◌, length, take, drop, take_all, refl, arith}
+use Rattle.std.proofs.Common.{◌-◌, length, drop, take_all, refl, arith}
 use Rattle.std.proofs.lemmas.List.{length-drop}
 use Rattle.script.proofs.Onward.{line_found}
 use Rattle.script.proofs.reader.next_line.Goals as goal

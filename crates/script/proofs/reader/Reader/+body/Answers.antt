@@ -1,13 +1,13 @@
-use Rattle.std.proofs.Common.{◌≡◌, ℕ, ◌<◌, ◌∷◌, length, Ok, sym, ap, ◌∙◌, subst, arith}
+use Rattle.std.proofs.Common.{◌≡◌, ℕ, ◌<◌, ◌∷◌, length, sym, ap, ◌∙◌, subst}
 use Rattle.std.proofs.lemmas.Result.{err_from_is_err_and}
 use Rattle.lines.specs.Faults.{blamed, line_values}
 use Rattle.lines.specs.declared.forms.Form.TheVariants.{Done}
 use Rattle.tree.specs.Grown.{growth}
 use Rattle.script.specs.Reading.{past, reading, grow}
-use Rattle.script.specs.Steps.{Within, Went, Line, line_at, Faulty, Looked, Stopped}
+use Rattle.script.specs.Steps.{Went, Line, line_at, Faulty, Stopped}
 use Rattle.script.specs.Values.{script_values}
 use Rattle.script.proofs.Onward.{reading_faulty}
-use Rattle.script.proofs.Bodies.{turn, went_on, line_went, line_fault, line_forward, same_outer, make_outer, tail_same, shorter}
+use Rattle.script.proofs.Bodies.{turn, went_on, line_went, line_fault, same_outer, make_outer, tail_same}
 use Rattle.script.proofs.reader.Reader.+body.Goals as goal
 use Rattle.script.proofs.reader.Reader.+body.Goals.{After-look, In_ok-next_line, In_ok-grow, In-Make, In_ok-body, In_ok-close}
 
@@ -33,37 +33,22 @@ nested t c =
 text_is : (t : ℕ) (c : After-look t) → c.look.new.self.text ≡ c.args.self.now.text
 text_is t c = ap (λ r. r.text) c.look.ensures.unaltered ∙ c.loop-form.invariant.2
 
-pub returns-in_err-form : goal.returns-in_err-form
-returns-in_err-form t c =
+pub returns-in_err-form-clause-result : goal.returns-in_err-form-clause-result
+returns-in_err-form-clause-result t c =
     let e = err_from_is_err_and c.from_residual.result c.from_residual.ensures.1 in
     let text = c.args.self.now.text.now in
     let p = c.loop-form.self.place in
-    record {
-      result = rw (e.1, e.2) (c.loop-form.invariant.0.same ∙ reading_faulty text p (growth c.loop-form.tree) (line_values c.in_err-form.field-0.0) (subst (λ l. Faulty l p (line_values c.in_err-form.field-0.0)) (ap (λ r. r.now) c.loop-form.invariant.2) c.in_err-form.ensures.result));
-      unaltered = ap (λ r. r.text) c.look.ensures.unaltered ∙ c.loop-form.invariant.2;
-    }
+    rw (e.1, e.2) (c.loop-form.invariant.0.same ∙ reading_faulty text p (growth c.loop-form.tree) (line_values c.in_err-form.field-0.0) (subst (λ l. Faulty l p (line_values c.in_err-form.field-0.0)) (ap (λ r. r.now) c.loop-form.invariant.2) c.in_err-form.ensures.result))
 
-pub returns-in_err-grow : goal.returns-in_err-grow
-returns-in_err-grow t c =
+pub returns-in_err-grow-clause-result : goal.returns-in_err-grow-clause-result
+returns-in_err-grow-clause-result t c =
     let e = err_from_is_err_and c.from_residual-in_err-grow.result c.from_residual-in_err-grow.ensures.1 in
     let text = c.args.self.now.text.now in
     let p = c.loop-form.self.place in
     let f = c.in-Some.form in
     let g = growth c.loop-form.tree in
-    let h = here t (goal.at.returns-in_err-grow t c).In_ok-next_line in
-    record {
-      result = rw (e.1, e.2) (c.loop-form.invariant.0.same ∙ line_fault text g p f h.0 (script_values c.in_err-grow.field-0.0) (ap (λ r. blamed r.place (grow f g)) (sym c.look.ensures.unaltered) ∙ c.in_err-grow.ensures.after));
-      unaltered = text_is t (goal.at.returns-in_err-grow t c).After-look;
-    }
-
-pub body-requires : goal.body-requires
-body-requires t c =
-    let n = nested t (goal.at.body-requires t c).In-Make in
-    let w = grown t (goal.at.body-requires t c).In_ok-grow in
-    let same = text_is t (goal.at.body-requires t c).After-look in
-    let long = ap length n.0 in
-    let left = ap length c.loop-form.invariant.1 in
-    (omega (arith, c.decreases, c.requires.left, n.1, left), (subst (λ l. Within l c.next_line.new.place) (sym (ap (λ r. r.now) same)) w.within, omega (arith, long, left, c.requires.left, n.1)))
+    let h = here t (goal.at.returns-in_err-grow-clause-result t c).In_ok-next_line in
+    rw (e.1, e.2) (c.loop-form.invariant.0.same ∙ line_fault text g p f h.0 (script_values c.in_err-grow.field-0.0) (ap (λ r. blamed r.place (grow f g)) (sym c.look.ensures.unaltered) ∙ c.in_err-grow.ensures.after))
 
 -- what the nested body does
 inner : (t : ℕ) (c : In_ok-body t) → Went c.args.self.now.text.now (growth c.args.tree.now) c.args.self.now.place (growth c.body.new.tree) c.body.new.self.place × Stopped c.args.self.now.text.now c.body.new.self.place × ((growth c.body.new.tree).outer ≡ (growth c.loop-form.tree).make ∷ (growth c.loop-form.tree).outer) × (c.body.new.self.text ≡ c.args.self.now.text)
@@ -78,25 +63,17 @@ inner t c =
     let b : (Went c.args.self.now.text.now g q h r) × (h.outer ≡ g.outer) × Stopped c.args.self.now.text.now r = subst (λ l. (Went l g q h r) × (h.outer ≡ g.outer) × Stopped l r) (ap (λ r. r.now) same) c.in_ok-body.ensures.result in
     (went_on c.args.self.now.text.now (growth c.args.tree.now) g h c.args.self.now.place q r w b.0, b.2, b.1 ∙ n.0, c.in_ok-body.ensures.unaltered ∙ same)
 
-pub returns-in_err-body : goal.returns-in_err-body
-returns-in_err-body t c =
+pub returns-in_err-body-clause-result : goal.returns-in_err-body-clause-result
+returns-in_err-body-clause-result t c =
     let e = err_from_is_err_and c.from_residual-in_err-body.result c.from_residual-in_err-body.ensures.1 in
-    let w = grown t (goal.at.returns-in_err-body t c).In_ok-grow in
-    let same = text_is t (goal.at.returns-in_err-body t c).After-look in
-    record {
-      result = rw (e.1, e.2) (w.same ∙ ap (λ l. reading l.now (growth c.grow.new.tree) c.next_line.new.place) (sym same) ∙ c.in_err-body.ensures.result);
-      unaltered = c.in_err-body.ensures.unaltered ∙ same;
-    }
+    let w = grown t (goal.at.returns-in_err-body-clause-result t c).In_ok-grow in
+    let same = text_is t (goal.at.returns-in_err-body-clause-result t c).After-look in
+    rw (e.1, e.2) (w.same ∙ ap (λ l. reading l.now (growth c.grow.new.tree) c.next_line.new.place) (sym same) ∙ c.in_err-body.ensures.result)
 
-pub close-requires : goal.close-requires
-close-requires t c =
-    let i = inner t (goal.at.close-requires t c).In_ok-body in
-    let back = sym (ap (λ r. r.now) i.3) in
-    record {
-      within = subst (λ l. Within l c.body.new.self.place) back i.0.within;
-      stopped = subst (λ l. Stopped l c.body.new.self.place) back i.1;
-      nested = omega (arith, ap length i.2);
-    }
+pub close-requires-clause-stopped : goal.close-requires-clause-stopped
+close-requires-clause-stopped t c =
+    let i = inner t (goal.at.close-requires-clause-stopped t c).In_ok-body in
+    subst (λ l. Stopped l c.body.new.self.place) (sym (ap (λ r. r.now) i.3)) i.1
 
 -- what the whole nested make does
 whole : (t : ℕ) (c : In_ok-close t) → Went c.args.self.now.text.now (growth c.args.tree.now) c.args.self.now.place (growth c.close.new.tree) c.close.new.self.place × ((growth c.close.new.tree).outer ≡ (growth c.args.tree.now).outer) × (c.close.new.self.text ≡ c.args.self.now.text)
@@ -109,31 +86,14 @@ whole t c =
     let b : Went c.args.self.now.text.now g q h r × ((m : ℕ) × (g.outer ≡ m ∷ h.outer)) = subst (λ l. Went l g q h r × ((m : ℕ) × (g.outer ≡ m ∷ h.outer))) (ap (λ r. r.now) i.3) c.in_ok-close.ensures.result in
     (went_on c.args.self.now.text.now (growth c.args.tree.now) g h c.args.self.now.place q r i.0 b.0, tail_same b.1.1 i.2 ∙ c.loop-form.invariant.1, c.in_ok-close.ensures.unaltered ∙ i.3)
 
-pub loop-form-smaller-in-Continue-branch-6 : goal.loop-form-smaller-in-Continue-branch-6
-loop-form-smaller-in-Continue-branch-6 t c =
-    let w = whole t c in
-    let h = here t (goal.at.loop-form-smaller-in-Continue-branch-6 t c).In_ok-next_line in
-    let on = line_forward c.args.self.now.text.now (growth c.loop-form.tree) c.loop-form.self.place c.in-Some.form h.0 c.next_line.new.place h.2 in
-    shorter c.loop-form.self.text.now c.close.new.self.text.now c.loop-form.self.place.byte c.close.new.self.place.byte (ap (λ r. r.now) (w.2 ∙ sym c.loop-form.invariant.2)) (omega (arith, on, c.in_ok-body.ensures.result.0.forward, c.in_ok-close.ensures.result.0.forward)) (subst (λ l. Within l c.close.new.self.place) (sym (ap (λ r. r.now) w.2)) w.0.within).inside
-
 pub loop-form-preserved-in-Continue-branch-6 : goal.loop-form-preserved-in-Continue-branch-6
 loop-form-preserved-in-Continue-branch-6 t c = whole t c
 
-pub returns-in_err-close : goal.returns-in_err-close
-returns-in_err-close t c =
+pub returns-in_err-close-clause-result : goal.returns-in_err-close-clause-result
+returns-in_err-close-clause-result t c =
     let e = err_from_is_err_and c.from_residual-in_err-close.result c.from_residual-in_err-close.ensures.1 in
-    let i = inner t (goal.at.returns-in_err-close t c).In_ok-body in
-    record {
-      result = rw (e.1, e.2) (i.0.same ∙ ap (λ l. reading l.now (growth c.body.new.tree) c.body.new.self.place) (sym i.3) ∙ c.in_err-close.ensures.result);
-      unaltered = c.in_err-close.ensures.unaltered ∙ i.3;
-    }
-
-pub loop-form-smaller : goal.loop-form-smaller
-loop-form-smaller t c =
-    let h = here t (goal.at.loop-form-smaller t c).In_ok-next_line in
-    let w = grown t (goal.at.loop-form-smaller t c).In_ok-grow in
-    let same = text_is t (goal.at.loop-form-smaller t c).After-look in
-    shorter c.loop-form.self.text.now c.look.new.self.text.now _ _ (ap (λ r. r.text.now) c.look.ensures.unaltered) (line_forward c.args.self.now.text.now (growth c.loop-form.tree) c.loop-form.self.place c.in-Some.form h.0 c.next_line.new.place h.2) (subst (λ l. Within l c.next_line.new.place) (sym (ap (λ r. r.now) same)) w.within).inside
+    let i = inner t (goal.at.returns-in_err-close-clause-result t c).In_ok-body in
+    rw (e.1, e.2) (i.0.same ∙ ap (λ l. reading l.now (growth c.body.new.tree) c.body.new.self.place) (sym i.3) ∙ c.in_err-close.ensures.result)
 
 pub loop-form-preserved : goal.loop-form-preserved
 loop-form-preserved t c =
@@ -142,17 +102,3 @@ loop-form-preserved t c =
       same_outer c.in-Some.form (growth c.loop-form.tree) (growth c.grow.new.tree) c.in_default-form.not-Make h.1 c.in_ok-grow.ensures.after ∙ c.loop-form.invariant.1,
       text_is t (goal.at.loop-form-preserved t c).After-look,
     )
-
-pub returns : goal.returns
-returns t c =
-    let u = c.look.ensures.unaltered in
-    let text = c.args.self.now.text.now in
-    let stop : Stopped text c.loop-form.self.place = subst (λ l. Stopped l c.loop-form.self.place) (ap (λ r. r.now) c.loop-form.invariant.2) (subst (λ o. Looked c.loop-form.self.text.now c.loop-form.self.place (Ok o)) c.in_default.is c.in_ok-form.ensures.result) in
-    record {
-      result = (
-        subst (λ r. Went text (growth c.args.tree.now) c.args.self.now.place (growth c.loop-form.tree) r.place) (sym u) c.loop-form.invariant.0,
-        c.loop-form.invariant.1,
-        subst (λ r. Stopped text r.place) (sym u) stop,
-      );
-      unaltered = ap (λ r. r.text) u ∙ c.loop-form.invariant.2;
-    }
