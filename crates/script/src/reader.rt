@@ -17,6 +17,7 @@ pub(crate) struct Reader<'a> {
 }
 
 // The line at the place, which then moves behind it; none at the end of the text.
+// It is told the reader's fields one by one, since a look borrows the place alone.
 fn next_line(text: &[u8], place: &mut Place) -> Result<Option<Form>, LineFault>
     requires within { Within text.now place.old }
     ensures after { Next text.now place.old result place.new }

@@ -20,7 +20,8 @@ pub fn read_with(tree: &mut Tree, growing: Growing, text: &[u8]) -> Result<(), S
     }
     let place = Place { line: 1, byte: 0 };
     let reader = Reader { text, place };
-    *tree = reader.whole(growing.restart())?;
+    let whole = reader.whole(growing.restart())?;
+    *tree = whole;
     Ok(())
 }
 

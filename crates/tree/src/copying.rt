@@ -24,10 +24,7 @@ impl Tree {
         ensures room { room_of self.old ≤ room_of self.new }
         ensures succeeds { count ≤ room_of self.old → IsOk result }
     {
-        if self.nodes.capacity() < count {
-            self.nodes.reserve(count - self.nodes.len())?;
-        }
-        Ok(())
+        self.nodes.reserve(count.saturating_sub(self.nodes.len()))
     }
 
     // Becomes a copy of the other tree, and asks for memory only where its own has no room for it: without it, it stays.
@@ -38,7 +35,7 @@ impl Tree {
     {
         self.make_room(other.nodes.len())?;
         self.nodes.clear();
-        let _ = self.nodes.extend_from_slice(&other.nodes);
+        self.nodes.extend_from_slice(&other.nodes).unwrap();
         self.steps = other.steps;
         Ok(())
     }

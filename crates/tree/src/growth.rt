@@ -91,7 +91,7 @@ impl Growing {
     pub fn job(&mut self, fails: bool, steps: u32) -> Result<(), TreeFault>
         ensures after { Grew (job_line fails steps (growth self.old)) result self.old self.new }
     {
-        if steps < 1 || steps > 999 {
+        if !(1..=999).contains(&steps) {
             return Err(TreeFault::Steps);
         }
         if self.nodes.len() >= MAX_NODES {

@@ -1,10 +1,12 @@
 // A tree, with what every tree that can be held keeps.
+// Its nodes stand in one list, in script order, since scripts, records and questions name them by number.
 ghost use Rattle.std.specs.Prelude.{◌≡◌};
 ghost use Rattle.tree.specs.Nodes.{total};
 ghost use Rattle.tree.specs.Kept.{Counted, Topped, Placed, Together, Levelled, Sized, Parted, Fed};
 
 use crate::node::Node;
 
+// Each fact is a field of its own, since the proofs of the crates above cite it by its name.
 #[derive(Drop)]
 pub struct Tree {
     pub(crate) nodes: Vec<Node>,

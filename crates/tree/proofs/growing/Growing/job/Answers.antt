@@ -1,4 +1,4 @@
-use Rattle.std.proofs.Common.{◌≡◌, [], ◌∷◌, ◌++◌, vec_items, sym, ap, ◌∙◌, subst, arith}
+use Rattle.std.proofs.Common.{rules, ◌≡◌, ◌≤◌, [], ◌∷◌, ◌++◌, vec_items, sym, ap, ◌∙◌, subst, arith}
 use Rattle.std.proofs.lemmas.List.{length-reverse}
 use Rattle.tree.specs.Growth.{job_node}
 use Rattle.tree.specs.Grown.{growth}
@@ -21,7 +21,8 @@ invariant_of-self-clause-growable c =
     ap (λ x. vec_items g.nodes ++ x ∷ []) (λ i. record { kind = kind i; make = g.make; level = level i; steps = c.args.steps; wait = g.wait }) in
     let long = g.nodes.ok.0 in
     let sum = g.summed in
-    subst (λ l. Growable l (vec_items g.outer) g.make) (sym is) (grown_job g c.args.fails c.args.steps (omega arith) (omega arith) (omega arith) (omega arith))
+    let fit : (1 ≤ c.args.steps) × (c.args.steps ≤ 999) = search rules in
+    subst (λ l. Growable l (vec_items g.outer) g.make) (sym is) (grown_job g c.args.fails c.args.steps fit.0 fit.1 (omega arith) (omega arith))
 
 pub invariant_of-self-clause-summed : goal.invariant_of-self-clause-summed
 invariant_of-self-clause-summed c = grind (arith, total_push, c.push_reserved.ensures.items, c.args.self.now.summed)
