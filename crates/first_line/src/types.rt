@@ -25,11 +25,11 @@ pub struct FirstLine<'a> {
 #[derive(Clone, Copy, Debug, PartialEq, Eq)]
 pub enum Refusal {
     // no form of a first line, or no byte 10
-    NoForm,
+    NoForm = 3,
     // a count that is not one to three digits, the first not 0
-    BadCount,
+    BadCount = 5,
     // more than 63 tokens
-    TooManyTokens,
+    TooManyTokens = 13,
 }
 
 impl Refusal {
@@ -37,10 +37,6 @@ impl Refusal {
     pub fn number(&self) -> u32
         ensures result { result ≡ number self.now }
     {
-        match self {
-            Refusal::NoForm => 3,
-            Refusal::BadCount => 5,
-            Refusal::TooManyTokens => 13,
-        }
+        *self as u32
     }
 }

@@ -5,11 +5,11 @@ ghost use Rattle.pool.specs.Numbers.{number};
 #[derive(Clone, Copy, Debug, PartialEq, Eq)]
 pub enum Refusal {
     // A put of a byte of which no token is out.
-    NotOut,
+    NotOut = 11,
     // A load reading above 100,000.
-    ReadingTooHigh,
+    ReadingTooHigh = 12,
     // A pipe or semaphore of more than 63 tokens.
-    TooManyTokens,
+    TooManyTokens = 13,
 }
 
 impl Refusal {
@@ -17,10 +17,6 @@ impl Refusal {
     pub fn number(&self) -> u32
         ensures result { result ≡ number self.now }
     {
-        match self {
-            Refusal::NotOut => 11,
-            Refusal::ReadingTooHigh => 12,
-            Refusal::TooManyTokens => 13,
-        }
+        *self as u32
     }
 }

@@ -12,26 +12,19 @@ use std::alloc::{AllocError, Global};
 // Why a tree may not grow so.
 #[derive(Clone, Copy, PartialEq, Eq, Debug)]
 pub enum TreeFault {
-    Steps,
-    Level,
-    Nodes,
-    TotalSteps,
-    Done,
-    Childless,
+    Steps = 5,
+    Level = 6,
+    Nodes = 7,
+    TotalSteps = 8,
+    Done = 9,
+    Childless = 10,
 }
 
 impl TreeFault {
     pub fn number(&self) -> u32
         ensures result { result ≡ fault_number self.now }
     {
-        match self {
-            TreeFault::Steps => 5,
-            TreeFault::Level => 6,
-            TreeFault::Nodes => 7,
-            TreeFault::TotalSteps => 8,
-            TreeFault::Done => 9,
-            TreeFault::Childless => 10,
-        }
+        *self as u32
     }
 }
 

@@ -1,9 +1,9 @@
 // What may be asked of a tree. A number that is not in the tree is refused, and the tree is never altered.
-ghost use Rattle.std.specs.Prelude.{◌≡◌, IfOk};
-ghost use Rattle.tree.specs.Nodes.{at};
+ghost use Rattle.std.specs.Prelude.{◌≡◌, ◌+◌, ◌≤◌, length, drop, IfOk};
+ghost use Rattle.tree.specs.Nodes.{at, total};
 ghost use Rattle.tree.specs.Questions.{count_of, kind_of, make_of, level_of, steps_of, wait_of, total_of, schedule_of, number_of, asked, told_node};
 ghost use Rattle.tree.specs.declared.questions.Unanswered.TheVariants.{NoMemory};
-ghost use Rattle.tree.specs.Questions.{nodes_of, fresh, subtree_of, Listed, ChildlessJob, WholeSubtree};
+ghost use Rattle.tree.specs.Questions.{nodes_of, fresh, front_of, subtree_of, Listed, ChildlessJob, WholeSubtree};
 
 use crate::node::{Kind, Node, TOP};
 use crate::tree::Tree;
@@ -43,6 +43,9 @@ impl<T: Drop> From<AllocFailed<T>> for Unanswered {
         Unanswered::NoMemory
     }
 }
+
+// Makes stand on levels 0 to 7.
+const MAX_LEVELS: u32 = 8;
 
 // The one job of a fresh tree.
 const FIRST_JOB: Node = Node {
@@ -134,12 +137,30 @@ impl Tree {
         ensures law { WholeSubtree self.now }
     {
         let node = self.node(n)?;
-        let below: u32 = self.nodes[n as usize + 1..]
-            .iter()
-            .take_while(|below| below.make >= n)
-            .map(|below| below.steps)
-            .sum();
+        let (below, _) = self.below(n, n + 1, MAX_LEVELS);
         Ok(node.steps + below)
+    }
+
+    // The steps of the nodes from `first` on that are below node `n`, and the number behind the last of them. As the reader
+    // of scripts does, this goes down into each make with one level less, so that the place moves by what lies below it.
+    fn below(&self, n: u32, first: u32, levels: u32) -> (u32, u32)
+        requires within { first ≤ count_of self.now }
+        ensures result { result.0 ≡ total (front_of n (drop first (nodes_of self.now))) }
+        ensures behind { result.1 ≡ first + length (front_of n (drop first (nodes_of self.now))) }
+    {
+        let mut sum = 0;
+        let mut next = first;
+        while (next as usize) < self.nodes.len() && self.nodes[next as usize].make >= n {
+            let node = self.nodes[next as usize];
+            sum += node.steps;
+            next += 1;
+            if node.kind == Kind::Make && levels > 0 {
+                let (more, end) = self.below(next - 1, next, levels - 1);
+                sum += more;
+                next = end;
+            }
+        }
+        (sum, next)
     }
 
     // The bytes that a schedule of this tree needs.
