@@ -2,15 +2,16 @@
 use Rattle.std.specs.Prelude.{◌≡◌, ℕ, ◌+◌, ◌<◌, List, [], ◌∷◌, ◌++◌, length, slice_index}
 use Rattle.pool.specs.Meaning.{only, count}
 use Rattle.pool.specs.Ways.{Ways}
+use Rattle.pipe.specs.Queue.{in_line}
 use Rattle.pipe.specs.declared.state.Pipe.{Pipe}
 
 -- The tokens in the pipe, in the order in which they entered.
 abbrev pub line : Pipe → List ℕ
-line p = p.line
+line p = in_line p.line
 
 -- How many tokens of the byte k are out.
 abbrev pub out : Pipe → ℕ → ℕ
-out p k = slice_index p.outs k
+out p k = slice_index p.outs.counts k
 
 -- A pipe with these tokens in, in this order, and none out.
 abbrev pub AllIn : List ℕ → Pipe → Type 0

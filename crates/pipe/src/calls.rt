@@ -60,7 +60,7 @@ impl Lender for Pipe {
     ghost ways = { pipe_ways };
 
     ghost bounded = { λ p.
-        let all_in = total_same (λ k. count k (line p)) (slice_index p.ins) p.counted in
+        let all_in = total_same (λ k. count k (line p)) (slice_index p.ins.counts) p.counted in
         record { few = omega (arith, all_in, p.all_in, p.few); backed = omega (arith, all_in, p.all_in) } };
 
     ghost taken = { λ p b q g.

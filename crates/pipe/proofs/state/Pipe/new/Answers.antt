@@ -8,7 +8,7 @@ unfolding count
 invariant_of-result c =
     let long = ap length c.new.ensures.result in
     record {
-      few = omega (arith, long, sum_zero (slice_index c.new-3.result) c.new-3.ensures.result);
+      few = omega (arith, long, sum_zero (slice_index c.new-3.result.counts) c.new-3.ensures.result);
       counted = λ k. c.new-2.ensures.result k ∙ ap (count k) (sym c.new.ensures.result);
-      all_in = sum_zero (slice_index c.new-2.result) c.new-2.ensures.result ∙ sym long;
+      all_in = sum_zero (slice_index c.new-2.result.counts) c.new-2.ensures.result ∙ sym long;
     }
