@@ -7,6 +7,7 @@ use Rattle.worked_traces.proofs.shown.worked_traces.Goals as goal
 use Rattle.law.specs.Calls.{step, kill, poll, halt}
 use Rattle.worked_traces.specs.Shown.{xy, plus_plus, two, nothing, quota_one, limited_at}
 use Rattle.lines.specs.Words.{parts}
+use Rattle.pipe.specs.Queue.{queue}
 use Rattle.pool.specs.Meaning.{count, sum_below, total as all_counts}
 use Rattle.script.specs.Reading.{read_parts}
 use Rattle.std.specs.Fmt.{digits}
@@ -17,7 +18,7 @@ abbrev rounds : ℕ → List Act
 rounds y = does (step 1) [] ∷ does (step 3) (y ∷ []) ∷ does (step 4) [] ∷ does (step 1) [] ∷ does (step 4) [] ∷ does (step 5) [] ∷ []
 
 pub returns : goal.returns
-unfolding parts read_parts total digits count sum_below all_counts
+unfolding parts read_parts total digits count sum_below all_counts queue
 returns c = record {
   law = (
     tree_z,
