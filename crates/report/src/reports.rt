@@ -1,13 +1,13 @@
 // From the input to the printed text.
 ghost use Rattle.std.specs.Prelude.{◌≡◌, IfOk, string_bytes};
-ghost use Rattle.first_line.specs.Head.{Few, told_choice};
+ghost use Rattle.first_line.specs.Head.{told_choice};
 ghost use Rattle.report.specs.Report.{Reported, Round, Scripted, Told};
 ghost use Rattle.script.specs.Reading.{read_text};
 
 use crate::nodes::push_tree;
 use crate::printed::{event_lines, refusal_line};
 use drain::drain;
-use first_line::{PoolChoice, read_first_line};
+use first_line::{FirstLine, PoolChoice, read_first_line};
 use pipe::Pipe;
 use pool::Pool;
 use script::{ReadError, read_script};
@@ -21,20 +21,19 @@ pub fn report(heap: Global, input: &[u8]) -> Result<Vec<u8>, AllocError>
 {
     let text = match read_first_line(input) {
         Err(refusal) => refusal_line(heap, refusal.number(), 0)?,
-        Ok(line) => script_report(heap, line.pool, line.rest)?,
+        Ok(line) => script_report(heap, line)?,
     };
     Ok(text.into_bytes())
 }
 
-// The text for a pool and the script behind the first line.
-fn script_report(heap: Global, pool: PoolChoice, script: &[u8]) -> Result<String, AllocError>
-    requires { Few (told_choice pool) }
-    ensures result { IfOk result (λ s. Scripted (told_choice pool.entry) (read_text script.now) (string_bytes s)) }
+// The text for what a first line says, and the script behind it.
+fn script_report(heap: Global, line: FirstLine) -> Result<String, AllocError>
+    ensures result { IfOk result (λ s. Scripted (told_choice line.entry.pool) (read_text line.entry.rest.now) (string_bytes s)) }
 {
     let mut tree = Tree::new(heap)?;
-    match read_script(&mut tree, heap, script) {
+    match read_script(&mut tree, heap, line.rest) {
         Ok(()) => {
-            let mut text = pool_round(heap, pool)?;
+            let mut text = pool_round(heap, line)?;
             push_tree(&mut text, &tree)?;
             Ok(text)
         }
@@ -45,11 +44,10 @@ fn script_report(heap: Global, pool: PoolChoice, script: &[u8]) -> Result<String
 }
 
 // The lines of a round on the pool that is asked for.
-fn pool_round(heap: Global, pool: PoolChoice) -> Result<String, AllocError>
-    requires { Few (told_choice pool) }
-    ensures result { IfOk result (λ s. Told (told_choice pool.entry) (string_bytes s)) }
+fn pool_round(heap: Global, line: FirstLine) -> Result<String, AllocError>
+    ensures result { IfOk result (λ s. Told (told_choice line.entry.pool) (string_bytes s)) }
 {
-    match pool {
+    match line.pool {
         PoolChoice::Pipe(tokens) => {
             let mut pipe = Pipe::new();
             pipe.fill(tokens).unwrap();

@@ -9,7 +9,7 @@ returns-in-Ok c =
     let tree = c.read_script.new.tree in
     let comes_to = c.read_script.ensures.law.comes_to (nodes_of tree) c.in-Ok.ensures.result in
     record {
-      result = subst (λ a. Scripted (told_choice c.args.pool) a (string_bytes c.push_tree.new.text)) (sym comes_to) (record {
+      result = subst (λ a. Scripted (told_choice c.args.line.pool) a (string_bytes c.push_tree.new.text)) (sym comes_to) (record {
         round = string_bytes c.in_ok-text-in-Ok.text;
         told = c.in_ok-text-in-Ok.ensures.result;
         tree = tree;
