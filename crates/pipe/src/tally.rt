@@ -13,7 +13,8 @@ pub struct Tally {
 
 impl Tally {
     pub fn new() -> Tally
-        ensures result { (k : ℕ) → slice_index result.counts k ≡ 0 }
+        ensures counts { (k : ℕ) → slice_index result.counts k ≡ 0 }
+        ensures sum { total (slice_index result.counts) ≡ 0 }
     {
         Tally {
             counts: [0; 256],

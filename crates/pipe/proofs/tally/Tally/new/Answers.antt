@@ -5,4 +5,4 @@ pub invariant_of-result-clause-summed : goal.invariant_of-result-clause-summed
 invariant_of-result-clause-summed c = sum_zero _ (all_zero 256)
 
 pub returns : goal.returns
-returns c = record { result = all_zero 256 }
+returns c = record { counts = all_zero 256; sum = sum_zero _ (all_zero 256) }
