@@ -1,11 +1,12 @@
 -- One change of a build at work, and its record. Assumes nothing.
-use Rattle.std.proofs.Common.{◌≡◌, ℕ, ◌+◌, ◌<◌, ◌≤◌, Bool, true, false, cond, ltb, List, length, vec_len, set, Ok, Err, Result, get_or, sym, refl, ap, ◌∙◌, subst, arith}
+use Rattle.std.proofs.Common.{◌≡◌, ℕ, ◌+◌, ◌<◌, ◌≤◌, Bool, true, false, cond, ltb, List, length, vec_items, vec_len, set, Ok, Err, Result, get_or, sym, refl, ap, ◌∙◌, subst, arith}
 use Rattle.pool.specs.Ways.{Ways}
 use Rattle.rules.specs.Builds.{Build, Loss, unbegun, at, with_state, tokens_of}
 use Rattle.rules.specs.Calls.{stepped}
 use Rattle.rules.specs.Ending.{noted_loss}
 use Rattle.rules.specs.Events.{accepted, accepts_start, accepts_work, state_of}
-use Rattle.rules.specs.Plans.{is_make}
+use Rattle.rules.specs.Plans.{is_make, plan_of}
+use Rattle.tree.specs.Questions.{nodes_of}
 use Rattle.rules.specs.declared.progress.Event.TheVariants as events
 use Rattle.rules.specs.declared.progress.Progress.{Progress}
 use Rattle.rules.specs.declared.progress.State.TheVariants.{Waiting, Running}
@@ -18,6 +19,7 @@ use Rattle.std.proofs.lemmas.Bool.{lt-ltb}
 use Rattle.build.specs.Changes.{Noted, Changed, Remade, reach}
 use Rattle.build.specs.Ended.{ended_record, noted_at}
 use Rattle.build.specs.Hands.{Backed}
+use Rattle.build.specs.Lost.{noted_losses}
 use Rattle.build.specs.Models.{model, in_hand}
 use Rattle.build.specs.Rooms.{room, unended, unstarted, bytes_left}
 use Rattle.build.specs.Turning.{Kept}
@@ -59,10 +61,14 @@ leaves_same e n x y inside read same =
     let state = same ∙ ap (λ z. z.state) (read_at (model e) n x place read) in
     leaves_set e n y (vec_len e.tokens.held) (vec_len e.losses.jobs) (vec_len e.losses.bytes) inside (omega (arith, ap unstarted state)) (omega (arith, ap unended state)) (omega (arith, ap unended state))
 
+-- a record alone leaves the build as it was
+pub noted_build : {e e' : Work} {old new : List ℕ} {r : Record} → Noted e old r e' new → model e' ≡ model e
+noted_build n = λ i. record { plan = plan_of (nodes_of (n.tree i)); keep = n.keep i; nodes = vec_items (n.nodes i); tokens = in_hand (n.tokens i); losses = noted_losses (n.losses i) }
+
 -- a change of the build alone, and then the record
 pub changed_by : (e : Work) {e₁ e' : Work} {old new : List ℕ} (b : Build) {r : Record} (spare : ℕ) → Noted e₁ old r e' new → e₁.written ≡ e.written → model e₁ ≡ b → room b + size r + spare ≤ room (model e) → Changed e old b r spare e' new
 changed_by e {e₁} {e'} {old} {new} b {r} spare noted place is enough =
-    let build : model e' ≡ b = noted.build ∙ is in
+    let build : model e' ≡ b = noted_build noted ∙ is in
     record {
       build = build;
       wrote = subst (λ n. Wrote old n (bytes r) new e'.written) place noted.wrote;

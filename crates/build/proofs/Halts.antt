@@ -27,7 +27,7 @@ use Rattle.schedule.proofs.Buffers.{wrote_none}
 use Rattle.schedule.specs.Buffers.{Wrote}
 use Rattle.schedule.specs.declared.record.Record.TheVariants.{Halt}
 use Rattle.build.proofs.Fitting.{fits}
-use Rattle.build.proofs.Altering.{kept_both, kept_same}
+use Rattle.build.proofs.Altering.{kept_both, kept_same, noted_build}
 use Rattle.build.proofs.Leading.{leads_none, leads_both, leads_then, leads_as}
 use Rattle.build.proofs.Steps.{noted_leads}
 use Rattle.build.specs.Changes.{Noted, Remade, here, reach}
@@ -208,7 +208,7 @@ module _ {P : Type 0} (w : Ways P) where
       let first : Leads w (noting Halt) (λ r. r) (here e p old) (here e₁ p mid) = noted_leads w Halt noted in
       let second : Leads w (on_build F) (λ r. r) (here e₁ p mid) (here e₂ p mid) = remade_leads w F e₁ e₂ is same inside in
       let L = running_jobs (model e₂) in
-      let build-same : model e₁ ≡ model e = noted.build in
+      let build-same : model e₁ ≡ model e = noted_build noted in
       let jobs : L ≡ running_jobs (model e) = ap running_jobs is ∙ stop_jobs (model e₁) ∙ ap running_jobs build-same in
       let both = leads_both w (leads_then w (on_build F) first) second in
       let all = leads_both w (leads_then w (end_all answering L) both) ended in

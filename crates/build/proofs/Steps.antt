@@ -17,6 +17,7 @@ use Rattle.build.specs.Changes.{Noted, here}
 use Rattle.build.specs.Leads.{on, Leads}
 use Rattle.build.specs.Working.{worked, stepped_build}
 use Rattle.build.specs.declared.work.Work.{Work}
+use Rattle.build.proofs.Altering.{noted_build}
 use Rattle.build.proofs.Leading.{leads_as}
 use Rattle.build.proofs.Settles.{point}
 
@@ -26,7 +27,7 @@ noted_leads w {e} {e'} {p} {old} {new} x n = record {
   answers = [];
   asked = [];
   records = x ∷ [];
-  runs = λ coming ops rs. ap (λ d. on d coming ops (x ∷ rs)) (sym n.build);
+  runs = λ coming ops rs. ap (λ d. on d coming ops (x ∷ rs)) (sym (noted_build n));
   pool = refl;
   wrote = subst (λ l. Wrote old e.written l new e'.written) (sym (append-nil (bytes x))) n.wrote;
 }

@@ -21,7 +21,11 @@ reach e = e.written + room (model e)
 
 -- a record was written, and no more
 pub record Noted (e : Work) (old : List ℕ) (r : Record) (e' : Work) (new : List ℕ) : Type 0 where
-  pub build : model e' ≡ model e
+  pub tree : e'.tree ≡ e.tree
+  pub keep : e'.keep ≡ e.keep
+  pub nodes : e'.nodes ≡ e.nodes
+  pub tokens : e'.tokens ≡ e.tokens
+  pub losses : e'.losses ≡ e.losses
   pub wrote : Wrote old e.written (bytes r) new e'.written
 
 -- make and child are in the tree, and the child has not begun

@@ -29,7 +29,7 @@ impl Work {
         self.nodes[m as usize].stop();
     }
 
-    // No make starts a further child.
+    // No make starts a further child. The tree names nodes by number, and each turn changes the build: so no chain.
     fn stop_makes(&mut self)
         ensures after { Remade self.old (stop_all (all_makes (model self.old).plan) (model self.old)) self.new }
     {
@@ -40,7 +40,7 @@ impl Work {
         }
     }
 
-    // Every running job ends as failed by the halt, in rising number.
+    // Every running job ends as failed by the halt, in rising number; no chain, since each end changes the build.
     fn end_jobs<P: Lender>(&mut self, pool: &mut P, buffer: &mut [u8])
         requires backed { Backed P.Lender.ways pool.old (in_hand self.old.tokens) }
         requires room { reach self.old ≤ length buffer.old }

@@ -89,7 +89,8 @@ impl Work {
         if has_wait(&self.tree, k) { ended } else { free }
     }
 
-    // The first child of the make that has not begun, if all before its nearest wait have ended.
+    // The first child of the make that has not begun, if all before its nearest wait have ended. What is free and what has
+    // ended goes on from child to child: so no chain.
     fn first_waiting(&self, m: u32) -> Option<u32>
         ensures { result ≡ search_children (model self.now) true true (children (model self.now).plan m) }
     {

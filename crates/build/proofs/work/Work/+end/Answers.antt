@@ -7,7 +7,7 @@ use Rattle.build.specs.Changes.{reach}
 use Rattle.build.specs.Hands.{Backed}
 use Rattle.build.specs.Models.{model}
 use Rattle.build.specs.Rooms.{room}
-use Rattle.build.proofs.Altering.{kept_both}
+use Rattle.build.proofs.Altering.{kept_both, noted_build}
 use Rattle.build.proofs.Leading.{leads_then, leads_both}
 use Rattle.build.proofs.Upwards.{ends_leads, finish_leads, top_leads, stays_leads, over_leads, over_runs}
 use Rattle.build.proofs.work.Work.+end.Goals as goal
@@ -18,7 +18,7 @@ returns-then-end-eq0 g t c =
     let how = c.args.end.how in
     let change = c.end_one.ensures.after in
     let noted = c.finish.ensures.after in
-    let is : model c.finish.new.self ≡ model c.end_one.new.self = noted.build in
+    let is : model c.finish.new.self ≡ model c.end_one.new.self = noted_build noted in
     let build = is ∙ change.build in
     let ended = ends_leads w (model c.args.self.now) how c.args.end.node _ change.build change.wrote in
     record {

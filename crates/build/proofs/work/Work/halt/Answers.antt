@@ -1,4 +1,5 @@
 use Rattle.std.proofs.Common.{◌≡◌, length, sym, ap, ◌∙◌, subst, arith}
+use Rattle.build.proofs.Altering.{noted_build}
 use Rattle.build.proofs.Accepting.{call_accepts, called}
 use Rattle.build.proofs.Halts.{halt_leads, stop_tokens}
 use Rattle.build.proofs.Leading.{ends_here}
@@ -23,7 +24,7 @@ end_jobs-requires g c =
     let accepts = call_accepts b (w.means c.args.pool.now).outs (length c.args.buffer.now) c.in_ok-check_call.ensures in
     let noted = c.note.ensures.after in
     let stopped = c.stop_makes.ensures.after in
-    let same : model c.note.new.self ≡ b = noted.build in
+    let same : model c.note.new.self ≡ b = noted_build noted in
     let tokens = ap (λ (d : Build). d.tokens) stopped.build ∙ stop_tokens (all_makes (model c.note.new.self).plan) (model c.note.new.self) ∙ ap (λ (d : Build). d.tokens) same in
     record {
       backed = subst (Backed w c.args.pool.now) (sym tokens) accepts.backed;

@@ -7,6 +7,7 @@ use Rattle.schedule.specs.declared.cause.Cause.TheVariants as causes
 use Rattle.schedule.specs.declared.record.Record.TheVariants.{Kill}
 use Rattle.build.specs.Models.{model}
 use Rattle.build.specs.Rooms.{room}
+use Rattle.build.proofs.Altering.{noted_build}
 use Rattle.build.proofs.Fitting.{ended_room, fits}
 use Rattle.build.proofs.Leading.{leads_then, leads_both}
 use Rattle.build.proofs.Steps.{noted_leads}
@@ -23,7 +24,7 @@ returns g c =
     let w = g.P.Lender.ways in
     let n = c.args.n in
     let noted = c.note.ensures.after in
-    let is : model c.note.new.self ≡ model c.args.self.now = noted.build in
+    let is : model c.note.new.self ≡ model c.args.self.now = noted_build noted in
     let kept = c.end.ensures.kept in
     record {
       after = leads_both w (leads_then w (end_node answering (Failed causes.Kill) n) (noted_leads w (Kill n) noted)) c.end.ensures.after;

@@ -4,6 +4,7 @@ use Rattle.rules.specs.Builds.{Build, with_tokens}
 use Rattle.build.specs.Hands.{Backed}
 use Rattle.build.specs.Models.{model, in_hand}
 use Rattle.build.specs.Rooms.{room}
+use Rattle.build.proofs.Altering.{noted_build}
 use Rattle.build.proofs.Returning.{back_fewer, back_out, gave_none, backed_fewer, put_goes, put_none_leads, put_one_leads, gave_fewer}
 use Rattle.build.proofs.Shown.{length_hand}
 use Rattle.build.proofs.work.Work.put_one.Goals as goal
@@ -51,7 +52,7 @@ returns g c =
     let back = subst (λ r. Put w c.args.pool.now c.in-Some.byte r c.put.new.self) c.unwrap.ensures c.put.ensures in
     let left = in_hand c.give_back.new.self in
     let noted = c.note.ensures.after in
-    let is : model c.note.new.self ≡ with_tokens b left = noted.build in
+    let is : model c.note.new.self ≡ with_tokens b left = noted_build noted in
     let fewer = back_fewer c.args.m b.tokens c.in-Some.byte left found in
     record {
       after = put_one_leads w b c.args.m _ c.in-Some.byte left found back is noted.wrote;

@@ -5,7 +5,7 @@ use Rattle.std.proofs.lemmas.List.{get_or-set_same}
 use Rattle.build.specs.Models.{model}
 use Rattle.build.specs.Rooms.{room}
 use Rattle.build.specs.Working.{stepped_build}
-use Rattle.build.proofs.Altering.{after_step, read_at, leaves_same, step_state}
+use Rattle.build.proofs.Altering.{after_step, read_at, leaves_same, step_state, noted_build}
 use Rattle.build.proofs.Fitting.{fits, stepped_room}
 use Rattle.build.proofs.work.Work.step_one.Goals as goal
 
@@ -36,7 +36,7 @@ returns c =
     let place : n < length b.nodes = omega (arith, so.whole, job.0) in
     let node = after_step _ (at b n) c.accept.new.self _ c.accept.ensures.after (read_at b n _ place c.index_mut.ensures.value) runs (omega (arith, c.steps_of-steps.ensures)) in
     let noted = c.note.ensures.after in
-    let build : model c.note.new.self ≡ stepped_build n b = noted.build ∙ ap (with_node b n) node in
+    let build : model c.note.new.self ≡ stepped_build n b = noted_build noted ∙ ap (with_node b n) node in
     let done : (at (stepped_build n b) n).done ≡ (at b n).done + 1 = ap (λ x. x.done) (get_or-set_same b.nodes n (stepped (at b n)) unbegun place) in
     record {
       after = record {
