@@ -1,4 +1,4 @@
-// The reader: a text, and the place of the line that comes next.
+// The reader: a text that is not too long, and the place in it of the line that comes next.
 ghost use Rattle.std.specs.Prelude.{◌≡◌, ◌+◌, ◌<◌, ◌≤◌, ◌∷◌, length};
 ghost use Rattle.tree.specs.Grown.{growth};
 ghost use Rattle.tree.specs.Growth.{finish as at_finish};
@@ -14,6 +14,7 @@ use tree::{Growing, Tree, TreeFault};
 pub(crate) struct Reader<'a> {
     pub(crate) text: &'a [u8],
     pub(crate) place: Place,
+    ghost within: { Within text.now place },
 }
 
 // The line at the place, which then moves behind it; none at the end of the text.
@@ -21,6 +22,7 @@ pub(crate) struct Reader<'a> {
 fn next_line(text: &[u8], place: &mut Place) -> Result<Option<Form>, LineFault>
     requires within { Within text.now place.old }
     ensures after { Next text.now place.old result place.new }
+    ensures within { Within text.now place.new }
 {
     let here = *place;
     if here.byte >= text.len() {
@@ -63,7 +65,6 @@ fn grow(tree: &mut Growing, form: Form, place: Place) -> Result<(), ScriptFault>
 impl Reader<'_> {
     // The next line, if it is there and goes on with the body that is read; the place stays.
     fn look(&mut self) -> Result<Option<Form>, LineFault>
-        requires within { Within self.old.text.now self.old.place }
         ensures result { Looked self.old.text.now self.old.place result }
         ensures unaltered { self.new ≡ self.old }
     {
@@ -78,7 +79,6 @@ impl Reader<'_> {
 
     // The lines of a body, up to its `done` or the end of the text, with so many levels left.
     fn body(&mut self, tree: &mut Growing, levels: u32) -> Result<(), ScriptFault>
-        requires within { Within self.old.text.now self.old.place }
         requires left { levels + length (growth tree.old).outer ≡ 8 }
         ensures result { BodyRead self.old.text.now (growth tree.old) self.old.place result (growth tree.new) self.new.place }
         ensures unaltered { self.new.text ≡ self.old.text }
@@ -97,7 +97,6 @@ impl Reader<'_> {
 
     // The `done` of a nested make.
     fn close(&mut self, tree: &mut Growing) -> Result<(), ScriptFault>
-        requires within { Within self.old.text.now self.old.place }
         requires stopped { Stopped self.old.text.now self.old.place }
         requires nested { 0 < length (growth tree.old).outer }
         ensures result { Closed self.old.text.now (growth tree.old) self.old.place result (growth tree.new) self.new.place }
@@ -112,7 +111,6 @@ impl Reader<'_> {
 
     // The whole text, from the place on.
     pub(crate) fn whole(mut self, mut tree: Growing) -> Result<Tree, ScriptFault>
-        requires within { Within self.text.now self.place }
         requires top { length (growth tree).outer ≡ 0 }
         ensures result { Whole self.entry.text.now (growth tree) self.entry.place result }
     {

@@ -22,4 +22,4 @@ returns-in_default-clause-result c =
 pub returns-clause-result : goal.returns-clause-result
 returns-clause-result c =
     let r = c.args.self.now in
-    close_read r.text.now (growth c.args.tree.now) r.place _ c.in-Some.form c.in_ok-form.field-0 c.requires.within c.requires.stopped c.in-Some.is c.in_ok-form.ensures.after c.grow.result _ c.grow.ensures.after
+    close_read r.text.now (growth c.args.tree.now) r.place _ c.in-Some.form c.in_ok-form.field-0 r.within c.requires.stopped c.in-Some.is c.in_ok-form.ensures.after c.grow.result _ c.grow.ensures.after
