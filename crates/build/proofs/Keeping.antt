@@ -1,11 +1,15 @@
 -- What every build keeps, as facts and as one statement. Assumes nothing.
-use Rattle.std.proofs.Common.{◌≡◌, true, refl, ap, inl, arith}
+use Rattle.std.proofs.Common.{◌≡◌, true, refl, ap, inl, arith, List, Result, ℕ}
 use Rattle.build.proofs.Fitting.{fits}
 use Rattle.build.specs.Keeps.{Lives, Paid, Works, is_good, AllGood, Blamed, GoesOn, AllDone, Idles, Untouched, Unstopped, StoppedWhy, Roomy}
 use Rattle.build.specs.Models.{status}
 use Rattle.build.specs.declared.state.Build.{Build as BuildOf}
 use Rattle.build.specs.declared.work.Work.{Work}
 use Rattle.law.proofs.Planning.{trees_planned}
+use Rattle.law.proofs.Sounding.{sound_call}
+use Rattle.law.specs.Calls.{Called, Request}
+use Rattle.pool.specs.Ways.{Ways}
+use Rattle.rules.specs.declared.refusal.Refusal.{Refusal}
 use Rattle.law.specs.Sound.{Sound}
 use Rattle.rules.specs.declared.progress.State.{State}
 use Rattle.rules.specs.declared.progress.State.TheVariants.{Waiting, Running, Good, Failed}
@@ -70,3 +74,7 @@ sound_by b = record {
   busy = b.works;
   room = b.roomy;
 }
+
+-- after a call on a build that keeps it
+pub kept_call : {P : Type 0} (w : Ways P) (c : Request) (b : BuildOf) (e : Work) (p q : P) (old new : List ℕ) (r : Result ℕ Refusal) → Called w c (status b.work) p old r (status e) q new → Kept e
+kept_call w c b e p q old new r called = kept_by e (sound_call w c (status b.work) (status e) p q old new r (sound_by b) called)

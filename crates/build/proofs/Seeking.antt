@@ -1,5 +1,6 @@
 -- Searches along the numbers of the nodes, by what is left of them. Assumes nothing.
-use Rattle.std.proofs.Common.{◌≡◌, ℕ, suc, ◌+◌, ◌-◌, ◌<◌, ◌≤◌, Bool, true, false, cond, eqb, List, [], ◌∷◌, None, Option, sym, refl, ap, ◌∙◌, arith}
+use Rattle.std.proofs.Common.{◌≡◌, ℕ, suc, ◌+◌, ◌-◌, ◌<◌, ◌≤◌, Bool, true, false, cond, eqb, List, [], ◌∷◌, None, Option, sym, refl, ap, ◌∙◌, arith, Some}
+use Rattle.std.specs.Bool.{then_some}
 use Rattle.rules.specs.Builds.{Build, at}
 use Rattle.rules.specs.Lists.{numbers, those, put_if, any}
 use Rattle.rules.specs.Startable.{look, search_children}
@@ -19,6 +20,11 @@ any_here f x xs e = rw e refl
 
 pub any_there : {A : Type 0} (f : A → Bool) (x : A) (xs : List A) → f x ≡ false → any f (x ∷ xs) ≡ any f xs
 any_there f x xs e = rw e refl
+
+-- an answer on a condition
+pub then_is : (t : Bool) (k : ℕ) → then_some t k ≡ cond t (Some k) None
+then_is true k = refl
+then_is false k = refl
 
 -- the search along the children of make m, from node k on
 module _ (b : Build) (m : ℕ) where

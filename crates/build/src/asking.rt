@@ -36,3 +36,9 @@ pub(crate) fn has_wait(tree: &Tree, n: u32) -> bool
 {
     tree.wait(n).unwrap_or(false)
 }
+
+pub(crate) fn level_of(tree: &Tree, n: u32) -> u32
+    ensures { result ≡ (plan_of (nodes_of tree.now)).level n }
+{
+    tree.level(n).unwrap_or(0)
+}

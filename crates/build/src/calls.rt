@@ -3,7 +3,8 @@ ghost use Rattle.std.specs.Prelude.{◌≡◌, ◌≤◌, OnErr};
 ghost use Rattle.build.specs.Changes.{reach};
 ghost use Rattle.build.specs.Keeps.{GoesOn};
 ghost use Rattle.build.specs.Models.{model, status};
-ghost use Rattle.law.specs.Calls.{Called, step as step_of_lem, kill as kill_of, poll as only_poll};
+ghost use Rattle.law.specs.Calls.{Called};
+ghost use Rattle.law.specs.Calls as requests;
 ghost use Rattle.rules.specs.Plans.{needed};
 
 use crate::work::Work;
@@ -21,7 +22,7 @@ impl Work {
     ) -> Result<u32, Refusal>
         requires going { GoesOn self.old }
         requires within { reach self.old ≤ needed (model self.old).plan }
-        ensures after { Called P.Lender.ways (step_of_lem n) (status self.old) pool.old buffer.old result (status self.new) pool.new buffer.new }
+        ensures after { Called P.Lender.ways (requests.step n) (status self.old) pool.old buffer.old result (status self.new) pool.new buffer.new }
         ensures unaltered { OnErr result (self.new ≡ self.old) }
     {
         self.check_job(pool, buffer.len(), n)?;
@@ -38,7 +39,7 @@ impl Work {
         buffer: &mut [u8],
     ) -> Result<u32, Refusal>
         requires within { reach self.old ≤ needed (model self.old).plan }
-        ensures after { Called P.Lender.ways (kill_of n) (status self.old) pool.old buffer.old result (status self.new) pool.new buffer.new }
+        ensures after { Called P.Lender.ways (requests.kill n) (status self.old) pool.old buffer.old result (status self.new) pool.new buffer.new }
         ensures unaltered { OnErr result (self.new ≡ self.old) }
     {
         self.check_job(pool, buffer.len(), n)?;
@@ -54,7 +55,7 @@ impl Work {
         buffer: &mut [u8],
     ) -> Result<u32, Refusal>
         requires within { reach self.old ≤ needed (model self.old).plan }
-        ensures after { Called P.Lender.ways only_poll (status self.old) pool.old buffer.old result (status self.new) pool.new buffer.new }
+        ensures after { Called P.Lender.ways requests.poll (status self.old) pool.old buffer.old result (status self.new) pool.new buffer.new }
         ensures unaltered { OnErr result (self.new ≡ self.old) }
     {
         self.check_call(pool, buffer.len())?;

@@ -1,10 +1,10 @@
 // What follows when a node ends.
-ghost use Rattle.std.specs.Prelude.{◌≡◌, ◌+◌, ◌-◌, ◌<◌, ◌≤◌, length, if◌then◌else◌, vec_len};
+ghost use Rattle.std.specs.Prelude.{◌≡◌, ◌+◌, ◌-◌, ◌<◌, ◌≤◌, length, if◌then◌else◌, vec_len, vec_capacity};
 ghost use Rattle.build.specs.Changes.{Changed, Noted, Remade, here, reach};
 ghost use Rattle.build.specs.Ended.{ended_build, ended_record, marked_build, noted_at};
 ghost use Rattle.build.specs.Leads.{Leads};
 ghost use Rattle.build.specs.Hands.{Backed};
-ghost use Rattle.build.specs.Lost.{noted_losses};
+ghost use Rattle.build.specs.Lost.{noted_losses, Grown};
 ghost use Rattle.build.specs.Models.{model, in_hand};
 ghost use Rattle.build.specs.Turning.{Kept};
 ghost use Rattle.law.specs.Answers.{answering};
@@ -30,10 +30,10 @@ use tree::Tree;
 
 // Notes the tokens of the node's make, for a job that fails.
 fn note_loss(tree: &Tree, tokens: &Tokens, end: End, losses: &mut Losses)
-    requires listed { vec_len losses.old.jobs < 200 }
-    requires room { vec_len losses.old.bytes + vec_len tokens.now.held ≤ 40000 }
+    requires listed { vec_len losses.old.jobs < vec_capacity losses.old.jobs }
+    requires room { vec_len losses.old.bytes + vec_len tokens.now.held ≤ vec_capacity losses.old.bytes }
     ensures after { noted_losses losses.new ≡ noted_at end.how end.node (plan_of (nodes_of tree.now)) (in_hand tokens.now) (noted_losses losses.old) }
-    ensures used { vec_len losses.new.bytes ≤ vec_len losses.old.bytes + vec_len tokens.now.held }
+    ensures memory { Grown losses.old (vec_len tokens.now.held) losses.new }
 {
     if end.how.is_err() && !is_make(tree, end.node) {
         losses.note(tokens, make_of(tree, end.node), end.node);

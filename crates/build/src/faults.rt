@@ -1,18 +1,17 @@
-// Why a node failed: the fault of a job, and of a failed make that of its child that failed first.
+// Why a node failed: the fault of a job, and of a failed make that of its child that failed first. The place for it is the
+// caller's, so that a question with no answer can leave it as it was. No public call asks yet.
 ghost use Rattle.std.specs.Prelude.{◌≡◌};
 ghost use Rattle.build.specs.Filling.{shown_fault, no_fault, fault_from, Filled};
 ghost use Rattle.build.specs.Models.{model};
 ghost use Rattle.rules.specs.Faults.{fault_by};
-ghost use Rattle.rules.specs.Plans.{plan_of};
 ghost use Rattle.std.specs.Option.{option_map};
-ghost use Rattle.tree.specs.Questions.{nodes_of};
 
-use crate::asking::is_make;
+use crate::asking::{is_make, level_of};
 use crate::work::Work;
 use rules::State;
 use schedule::cause::Cause;
 use std::alloc::Global;
-use tree::{Tree, Unanswered};
+use tree::Unanswered;
 
 // Why a job failed, which job, its level, the steps that it had done, and the tokens that its make held just before,
 // oldest first.
@@ -47,19 +46,13 @@ pub(crate) struct Failure {
     pub(crate) cause: Cause,
 }
 
-fn level_of(tree: &Tree, n: u32) -> u32
-    ensures { result ≡ (plan_of (nodes_of tree.now)).level n }
-{
-    tree.level(n).unwrap_or(0)
-}
-
 impl Work {
     // The failed job that the fault of node n is of: down from a failed make to its child that failed first.
     fn failure(&self, n: u32) -> Option<Failure>
         ensures result { option_map (fault_from (model self.now)) result ≡ fault_by (model self.now) (model self.now).plan.nodes n }
     {
         let mut k = n;
-        // each turn goes on to a child, which has a higher number: as many turns as nodes suffice
+        // each turn goes on to a child, which has a higher number: as many turns as nodes suffice, counted down as the rules do
         for _turns in (0..self.tree.count()).rev() {
             let node = self.progress(k);
             let State::Failed(cause) = node.state else {
@@ -82,9 +75,7 @@ impl Work {
         let Some(failure) = self.failure(n) else {
             return Ok(false);
         };
-        let Ok(tokens) = self.losses.tokens_at(heap, failure.job) else {
-            return Err(Unanswered::NoMemory);
-        };
+        let tokens = self.losses.tokens_at(heap, failure.job)?;
         *place = Fault {
             cause: failure.cause,
             node: failure.job,

@@ -7,7 +7,8 @@ ghost use Rattle.build.specs.Models.{model, in_hand, status};
 ghost use Rattle.build.specs.Rooms.{unended};
 ghost use Rattle.build.specs.Turning.{Kept};
 ghost use Rattle.law.specs.Answers.{answering};
-ghost use Rattle.law.specs.Calls.{Called, halt as only_halt};
+ghost use Rattle.law.specs.Calls.{Called};
+ghost use Rattle.law.specs.Calls as requests;
 ghost use Rattle.rules.specs.Builds.{at, running_jobs, with_node};
 ghost use Rattle.rules.specs.Calls.{end_all, stop, stop_all};
 ghost use Rattle.rules.specs.Plans.{all_makes, needed};
@@ -62,7 +63,7 @@ impl Work {
         buffer: &mut [u8],
     ) -> Result<u32, Refusal>
         requires within { reach self.old + unended (at (model self.old) 0).state ≤ needed (model self.old).plan }
-        ensures after { Called P.Lender.ways only_halt (status self.old) pool.old buffer.old result (status self.new) pool.new buffer.new }
+        ensures after { Called P.Lender.ways requests.halt (status self.old) pool.old buffer.old result (status self.new) pool.new buffer.new }
         ensures unaltered { OnErr result (self.new ≡ self.old) }
     {
         self.check_call(pool, buffer.len())?;

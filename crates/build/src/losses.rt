@@ -17,23 +17,23 @@ pub(crate) struct Loss {
 pub(crate) struct Losses {
     pub(crate) jobs: Vec<Loss>,
     pub(crate) bytes: Vec<u8>,
-    // for as many jobs as a tree has nodes, and so many tokens for each
+    // `ample` for as many jobs as a tree has nodes, `spare` for as many tokens for each
     ghost ample: { 200 ≤ vec_capacity jobs },
     ghost spare: { 40000 ≤ vec_capacity bytes },
 }
 
 impl Losses {
     ghost use Rattle.build.specs.Hands.{own_bytes};
-    ghost use Rattle.build.specs.Lost.{noted_losses};
+    ghost use Rattle.build.specs.Lost.{noted_losses, Grown};
     ghost use Rattle.build.specs.Models.{in_hand};
     ghost use Rattle.rules.specs.Faults.{tokens_at};
 
     // Notes the tokens of the make, oldest first, as those that it held when the job failed.
     pub(crate) fn note(&mut self, tokens: &Tokens, make: u32, job: u32)
-        requires listed { vec_len self.old.jobs < 200 }
-        requires room { vec_len self.old.bytes + vec_len tokens.now.held ≤ 40000 }
+        requires listed { vec_len self.old.jobs < vec_capacity self.old.jobs }
+        requires room { vec_len self.old.bytes + vec_len tokens.now.held ≤ vec_capacity self.old.bytes }
         ensures after { noted_losses self.new ≡ record { job = job; tokens = own_bytes make (in_hand tokens.now) } ∷ noted_losses self.old }
-        ensures used { vec_len self.new.bytes ≤ vec_len self.old.bytes + vec_len tokens.now.held }
+        ensures memory { Grown self.old (vec_len tokens.now.held) self.new }
     {
         let from = self.bytes.len();
         self.jobs.push_reserved(Loss { job, from });

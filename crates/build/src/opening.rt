@@ -21,12 +21,9 @@ use pool::{Lender, Pool};
 use rules::{Event, Refusal};
 use schedule::record::Record;
 use std::alloc::{AllocError, Global};
-use tree::Tree;
+use tree::{MAX_NODES, Tree};
 
-// The most nodes that a tree has, and the most tokens that a make may hold.
-const MOST_NODES: usize = 200;
-
-// How many tokens are in the pool.
+// How many tokens are in the pool. A chain ending in `sum` was tried: its proof did not close over all bytes.
 fn total_in<P: Lender>(pool: &P) -> u32
     ensures { result ≡ total (P.Lender.ways.means pool.now).ins }
 {
@@ -43,11 +40,11 @@ pub(crate) fn unopened(heap: Global) -> Result<Work, AllocError>
 {
     let tree = Tree::with_room(heap)?;
     let count = tree.count() as usize;
-    let mut nodes = Vec::with_capacity(heap, MOST_NODES)?;
+    let mut nodes = Vec::with_capacity(heap, MAX_NODES)?;
     nodes.resize(count, UNBEGUN)?;
-    let held = Vec::with_capacity(heap, MOST_NODES)?;
-    let jobs = Vec::with_capacity(heap, MOST_NODES)?;
-    let bytes = Vec::with_capacity(heap, MOST_NODES * MOST_NODES)?;
+    let held = Vec::with_capacity(heap, MAX_NODES)?;
+    let jobs = Vec::with_capacity(heap, MAX_NODES)?;
+    let bytes = Vec::with_capacity(heap, MAX_NODES * MAX_NODES)?;
     let tokens = Tokens { held };
     let losses = Losses { jobs, bytes };
     Ok(Work {
@@ -66,10 +63,10 @@ impl Work {
         ensures after { Fresh tree.now keep self.new }
     {
         let count = tree.count() as usize;
-        let _ = self.tree.copy_from(tree);
+        self.tree.copy_from(tree).unwrap();
         self.keep = keep;
         self.nodes.clear();
-        let _ = self.nodes.resize(count, UNBEGUN);
+        self.nodes.resize(count, UNBEGUN).unwrap();
         self.tokens.held.clear();
         self.losses.jobs.clear();
         self.losses.bytes.clear();

@@ -1,4 +1,5 @@
-// What may be asked of a build. A number that is not in the tree is refused, and the build is never altered.
+// What may be asked of a build. A number that is not in the tree is refused, and the build is never altered. No public call
+// asks yet but for the lengths and the finish.
 ghost use Rattle.std.specs.Prelude.{◌≡◌, length, IfOk};
 ghost use Rattle.build.specs.Questions.{Listed, ChildlessJob};
 ghost use Rattle.build.specs.Models.{model};
@@ -78,7 +79,7 @@ impl Work {
         ensures result { Listed self.now.tree m (tokens_of (model self.now) m) result }
     {
         self.node(m)?;
-        self.tokens_of(heap, m).map_err(|_| Unanswered::NoMemory)
+        Ok(self.tokens_of(heap, m)?)
     }
 
     // Whether the build is finished: its top make has ended.

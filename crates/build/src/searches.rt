@@ -30,7 +30,8 @@ impl Work {
         self.nodes.get(n as usize).copied().unwrap_or(UNBEGUN)
     }
 
-    // Whether node k is a running child of make m.
+    // Whether node k is a running child of make m. The same of a waiting one, and whether there is one, stand apart: a function
+    // over the test would have a clause over closures, and be no plainer.
     pub(crate) fn runs_under(&self, k: u32, m: u32) -> bool
         ensures { result ≡ runs_under (model self.now) m k }
     {
@@ -102,7 +103,7 @@ impl Work {
             }
             free = self.freed(k, free, ended);
             match self.progress(k).state {
-                State::Waiting => return if free { Some(k) } else { None },
+                State::Waiting => return free.then_some(k),
                 State::Running => ended = false,
                 State::Good | State::Failed(_) => {}
             }

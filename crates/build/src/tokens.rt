@@ -28,8 +28,9 @@ impl Tokens {
 
     // The make takes a token into its hand.
     pub(crate) fn take_up(&mut self, token: Token)
-        requires { vec_len self.old.held < 200 }
-        ensures { in_hand self.new ≡ held token ∷ in_hand self.old }
+        requires { vec_len self.old.held < vec_capacity self.old.held }
+        ensures after { in_hand self.new ≡ held token ∷ in_hand self.old }
+        ensures capacity { vec_capacity self.new.held ≡ vec_capacity self.old.held }
     {
         self.held.push_reserved(token);
     }
@@ -43,7 +44,8 @@ impl Tokens {
 
     // The token of the make that goes back: the one that it took last.
     pub(crate) fn give_back(&mut self, make: u32) -> Option<u8>
-        ensures { GaveBack make (in_hand self.old) result (in_hand self.new) }
+        ensures after { GaveBack make (in_hand self.old) result (in_hand self.new) }
+        ensures capacity { vec_capacity self.new.held ≡ vec_capacity self.old.held }
     {
         let last = self.last_of(make)?;
         Some(self.held.remove(last).byte)

@@ -57,6 +57,7 @@ impl Round {
         requires empty { (vec_len self.old.held ≡ 0) × (vec_len self.old.events ≡ 0) }
         ensures after { ObtainedAll P.Lender.ways pool.old self.new.held.items self.new.events.items pool.new }
         ensures len { (vec_len self.new.held ≤ 63) × (vec_len self.new.events ≡ vec_len self.new.held + 1) }
+        ensures capacity { vec_capacity self.new.events ≡ vec_capacity self.old.events }
     {
         while let Some(grant) = obtain(pool) {
             self.events
@@ -69,7 +70,7 @@ impl Round {
     // Releases the grants, the last one first.
     fn release_all<P: Pool>(&mut self, pool: &mut P)
         requires out { HeldOf P.Lender.ways pool.old self.old.held.items }
-        requires room { vec_len self.old.events + vec_len self.old.held ≤ 127 }
+        requires room { vec_len self.old.events + vec_len self.old.held ≤ vec_capacity self.old.events }
         ensures after { ReleasedAll P.Lender.ways pool.old self.old.held.items self.old.events.items self.new.events.items pool.new }
         ensures len { vec_len self.new.held ≡ 0 }
     {

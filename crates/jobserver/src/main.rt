@@ -1,4 +1,5 @@
-// Reads a first line and prints what a tool sees that obtains and releases every token of that pool.
+// Reads a first line and a script, and prints what a tool sees that obtains and releases every token of that pool, and the
+// script's tree.
 #![tactic(auto)]
 
 use report::report;

@@ -12,6 +12,7 @@ pub enum Layer {
     Tree,
 }
 
+// A case that holds a place can be given no number of its own, here and below: the numbers stand apart.
 #[derive(Clone, Copy, PartialEq, Eq, Debug)]
 pub enum WordFault {
     StrayByte(Place),

@@ -97,11 +97,11 @@ impl Lender for Pipe {
     }
 
     fn count_in(&self, b: u8) -> u32 {
-        self.ins.of(b)
+        self.ins.count(b)
     }
 
     fn count_out(&self, b: u8) -> u32 {
-        self.outs.of(b)
+        self.outs.count(b)
     }
 }
 

@@ -22,7 +22,7 @@ pub struct Ring {
 impl Ring {
     ghost use Rattle.pipe.specs.Queue.{in_line};
 
-    pub fn new() -> Ring
+    pub(crate) fn new() -> Ring
         ensures result { in_line result ≡ [] }
     {
         Ring {
@@ -33,7 +33,7 @@ impl Ring {
     }
 
     // Puts a byte at the end of the line.
-    pub fn push(&mut self, b: u8)
+    pub(crate) fn push(&mut self, b: u8)
         requires { length (in_line self.old) < most_tokens }
         ensures after { in_line self.new ≡ in_line self.old ++ b ∷ [] }
     {
@@ -42,7 +42,7 @@ impl Ring {
     }
 
     // Takes the first byte, or none from an empty line.
-    pub fn pop(&mut self) -> Option<u8>
+    pub(crate) fn pop(&mut self) -> Option<u8>
         ensures after { MatchOption result ((in_line self.old ≡ []) × (self.new ≡ self.old)) (λ b. in_line self.old ≡ b ∷ in_line self.new) }
     {
         if self.len == 0 {

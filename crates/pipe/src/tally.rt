@@ -12,7 +12,7 @@ pub struct Tally {
 }
 
 impl Tally {
-    pub fn new() -> Tally
+    pub(crate) fn new() -> Tally
         ensures counts { (k : ℕ) → slice_index result.counts k ≡ 0 }
         ensures sum { total (slice_index result.counts) ≡ 0 }
     {
@@ -23,21 +23,21 @@ impl Tally {
     }
 
     // How many there are of this byte.
-    pub fn of(&self, b: u8) -> u32
+    pub(crate) fn count(&self, b: u8) -> u32
         ensures result { result ≡ slice_index self.now.counts b }
     {
         self.counts[b as usize]
     }
 
     // How many there are of all bytes.
-    pub fn sum(&self) -> u32
+    pub(crate) fn sum(&self) -> u32
         ensures result { result ≡ total (slice_index self.now.counts) }
     {
         self.sum
     }
 
     // One more of this byte.
-    pub fn add(&mut self, b: u8)
+    pub(crate) fn add(&mut self, b: u8)
         requires { total (slice_index self.old.counts) + 1 < 2 ^ 32 }
         ensures counts { (k : ℕ) → slice_index self.new.counts k ≡ slice_index self.old.counts k + only b 1 k }
         ensures sum { total (slice_index self.new.counts) ≡ total (slice_index self.old.counts) + 1 }
@@ -47,7 +47,7 @@ impl Tally {
     }
 
     // One less of this byte.
-    pub fn remove(&mut self, b: u8)
+    pub(crate) fn remove(&mut self, b: u8)
         requires { 0 < slice_index self.old.counts b }
         ensures counts { (k : ℕ) → slice_index self.new.counts k + only b 1 k ≡ slice_index self.old.counts k }
         ensures sum { total (slice_index self.new.counts) + 1 ≡ total (slice_index self.old.counts) }

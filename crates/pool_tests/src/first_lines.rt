@@ -7,7 +7,8 @@ fn refused(line: &[u8]) -> Option<u32> {
     read_first_line(line).err().map(|refusal| refusal.number())
 }
 
-// The tokens of the pipe or the count of the semaphore, whether to keep going, and how many bytes stand behind the line.
+// The tokens of the pipe and the count of the semaphore, one of which is nothing so that a row is compared whole, whether to
+// keep going, and how many bytes stand behind the line.
 fn told(line: &[u8]) -> Option<(&[u8], u32, bool, usize)> {
     let first = read_first_line(line).ok()?;
     let (tokens, count): (&[u8], u32) = match first.pool {

@@ -3,6 +3,7 @@ use pipe::Pipe;
 use pool::{Pool, Refusal};
 use std::process::Abort;
 
+// Calls as data, so that a walk is a table.
 #[derive(Clone, Copy)]
 pub enum Call {
     // a take, and the byte or none that it answers

@@ -1,4 +1,5 @@
-// What the program prints for an input: a round of obtaining and releasing all tokens of the pool that it asks for.
+// What the program prints for an input: a round of obtaining and releasing all tokens of the pool that it asks for, and the
+// tree of its script.
 #![tactic(auto)]
 
 mod nodes;

@@ -38,7 +38,7 @@ fn script_report(heap: Global, line: FirstLine) -> Result<String, AllocError>
             Ok(text)
         }
         Err(ReadError::Fault(fault)) => refusal_line(heap, fault.number(), fault.place().line),
-        // what the reader met is handed on
+        // want of memory is one case of several for the reader, and holds no error to hand on
         Err(ReadError::NoMemory) => Err(AllocError),
     }
 }

@@ -6,16 +6,16 @@ ghost use Rattle.schedule.specs.Records.{kind_of};
 
 #[derive(Clone, Copy, PartialEq, Eq, Debug)]
 pub(crate) enum Kind {
-    Open,
-    StartInSlot,
-    StartWithToken,
-    Step,
-    Kill,
-    Halt,
-    EndedWell,
-    EndedFailed,
-    PutBack,
-    Finished,
+    Open = b'O' as isize,
+    StartInSlot = b'A' as isize,
+    StartWithToken = b'T' as isize,
+    Step = b'S' as isize,
+    Kill = b'K' as isize,
+    Halt = b'H' as isize,
+    EndedWell = b'E' as isize,
+    EndedFailed = b'F' as isize,
+    PutBack = b'R' as isize,
+    Finished = b'D' as isize,
 }
 
 // A byte that is the letter of no kind.
@@ -27,18 +27,7 @@ impl Kind {
     pub(crate) fn letter(self) -> u8
         ensures { result ≡ letter_of self }
     {
-        match self {
-            Kind::Open => b'O',
-            Kind::StartInSlot => b'A',
-            Kind::StartWithToken => b'T',
-            Kind::Step => b'S',
-            Kind::Kill => b'K',
-            Kind::Halt => b'H',
-            Kind::EndedWell => b'E',
-            Kind::EndedFailed => b'F',
-            Kind::PutBack => b'R',
-            Kind::Finished => b'D',
-        }
+        self as u8
     }
 
     // How many bytes follow the letter.

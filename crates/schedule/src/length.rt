@@ -4,8 +4,8 @@ ghost use Rattle.schedule.specs.Reading.{body_length};
 
 use crate::refusal::ReadRefusal;
 
-// The length of the body behind a kind byte at a place, with some bytes left in the schedule behind it. How a schedule divides is
-// to be seen in one match, with a guard for each body that is cut, so the lengths of `Kind::follow` stand here again.
+// The length of the body behind a kind byte at a place, with some bytes left in the schedule behind it. The match shows for
+// each kind how a body is cut short, so the lengths of `Kind` stand here again.
 pub fn body_length(kind: u8, left: usize, place: usize) -> Result<usize, ReadRefusal>
     ensures result { result ≡ body_length kind left place }
 {

@@ -22,7 +22,7 @@ fn put(buffer: &mut [u8], place: usize, added: &[u8]) -> usize
     end
 }
 
-// Writes a kind as its letter at the front of the buffer. That the byte is shown as one of ten letters is to be seen here.
+// Writes a kind as its letter at the front of the buffer. The match names the ten letters, so that no other byte is shown.
 fn put_letter(buffer: &mut [u8], kind: u8) -> usize
     requires room { 1 ≤ length buffer.old }
     requires known { is_some (kind_of kind) ≡ true }

@@ -23,7 +23,7 @@ impl<'a> ScheduleReader<'a> {
         ScheduleReader { schedule, place: 0 }
     }
 
-    // The next record with its place, none at the end, or a refusal. No `Iterator` has it: a reader that has refused
+    // The next record with its place, none at the end, or a refusal. It is no `Iterator`: a reader that has refused
     // refuses again, so that a loop over its items would not end.
     pub fn next(&mut self) -> Result<Option<Placed<'a>>, ReadRefusal>
         ensures result { shown result ≡ found (ahead self.old) self.old.place }

@@ -2,7 +2,8 @@
 ghost use Rattle.std.specs.Prelude.{◌≡◌};
 ghost use Rattle.schedule.specs.Refusals.{read_number, read_place, buffer_number};
 
-// No record stands at a place: its first byte is no kind, or its body is cut short.
+// No record stands at a place: its first byte is no kind, or its body is cut short. A case that holds its place can be given no
+// number of its own, so the numbers stand apart.
 #[derive(Clone, Copy, PartialEq, Eq, Debug)]
 pub enum ReadRefusal {
     UnknownKind { place: usize },

@@ -58,7 +58,7 @@ impl From<RecordView<'_>> for Record {
     }
 }
 
-// The view of a kind byte and its whole body.
+// The view of a kind byte, which `body_length` has read, and its whole body.
 pub(crate) fn view<'a>(kind: u8, body: &'a [u8]) -> RecordView<'a>
     requires { body_length kind (length body.now) 0 ≡ Ok (length body.now) }
     ensures records { span result ≡ kind ∷ body.now }

@@ -8,6 +8,7 @@ use lines::{Layer, LineFault, Place};
 use std::alloc::AllocError;
 use tree::TreeFault;
 
+// Cases that hold a fault or a place can be given no numbers of their own: the numbers stand apart.
 #[derive(Clone, Copy, PartialEq, Eq, Debug)]
 pub enum ScriptFault {
     TooLong,

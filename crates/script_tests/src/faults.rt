@@ -245,9 +245,7 @@ const ROWS: [Row; 38] = [
 fn refused(rt: HostRuntime) -> Result<(), Fail> {
     for row in &ROWS {
         let (_, fault) = read(&rt, row.text)?;
-        let Some(fault) = fault else {
-            return Err(Fail::new("accepted"));
-        };
+        let fault = fault.ok_or("accepted")?;
         assert_eq!(rt; fault.number(), row.number, "{}", row.text);
         assert_eq!(rt; fault.layer(), row.layer, "{}", row.text);
         assert_eq!(rt; fault.place(), row.place, "{}", row.text);

@@ -28,7 +28,8 @@ impl TreeFault {
     }
 }
 
-pub(crate) const MAX_NODES: usize = 200;
+// The most nodes that a tree may have.
+pub const MAX_NODES: usize = 200;
 
 const MAX_STEPS: u32 = 20_000;
 

@@ -9,7 +9,7 @@ mod questions;
 mod tree;
 
 pub use growing::Growing;
-pub use growth::TreeFault;
+pub use growth::{MAX_NODES, TreeFault};
 pub use node::{Kind, Node};
 pub use questions::Unanswered;
 pub use tree::Tree;

@@ -9,7 +9,7 @@ use crate::node::{Kind, Node, TOP};
 use crate::tree::Tree;
 use std::alloc::{AllocError, AllocFailed, Global};
 
-// Why a question has no answer.
+// Why a question has no answer. One of them has no number, so the numbers stand apart.
 #[derive(Clone, Copy, PartialEq, Eq, Debug)]
 pub enum Unanswered {
     NotInTree,
@@ -89,7 +89,7 @@ impl Tree {
         ensures result { result ≡ asked self.now n (make_of self.now n) }
     {
         let node = self.node(n)?;
-        Ok(if n == 0 { None } else { Some(node.make) })
+        Ok((n != 0).then_some(node.make))
     }
 
     pub fn level(&self, n: u32) -> Result<u32, Unanswered>

@@ -6,7 +6,6 @@ ghost use Rattle.tree.specs.Kept.{Counted, Topped, Placed, Together, Levelled, S
 
 use crate::node::Node;
 
-// Each fact is a field of its own, since the proofs of the crates above cite it by its name.
 #[derive(Drop)]
 pub struct Tree {
     pub(crate) nodes: Vec<Node>,

@@ -44,6 +44,7 @@ returns c =
       result = (
         record {
           build = λ i. record { plan = plan_of (nodes_of t); keep = false; nodes = nodes i; tokens = reverse (map held (none.items i)); losses = losses_by (reverse (jobs.items i)) (bytes.items i) };
+          none = bytes.len;
           written = refl;
         },
         c.in_ok-tree.ensures.result.0,

@@ -18,5 +18,5 @@ returns c =
       after =
           (λ i. losses_by (reverse ((jobs.items ∙ ap (λ n. vec_items old.jobs ++ record { job = c.args.job; from = n } ∷ []) at) i)) (bytes.after i))
           ∙ noted_more (vec_items old.jobs) (vec_items old.bytes) more c.args.job;
-      used = bytes.len;
+      memory = record { jobs = jobs.capacity; most = bytes.capacity; used = bytes.len };
     }

@@ -13,4 +13,7 @@ returns c =
     let parts : map held (take i ts ++ drop (i + 1) ts) ≡ take i xs ++ drop (i + 1) xs =
     map-append held (take i ts) (drop (i + 1) ts) ∙ (λ j. sym (take-map held i ts) j ++ sym (drop-map held (i + 1) ts) j) in
     let left = ap (λ l. reverse (map held l)) c.remove.ensures.by_index.2 ∙ ap reverse parts ∙ reverse-append (take i xs) (drop (i + 1) xs) in
-    c.in_ok-last.ensures.1 (held c.remove.result) at.is ∙ ap (λ l. Some (c.remove.result.byte, l)) (sym left)
+    record {
+      after = c.in_ok-last.ensures.1 (held c.remove.result) at.is ∙ ap (λ l. Some (c.remove.result.byte, l)) (sym left);
+      capacity = c.remove.ensures.capacity;
+    }

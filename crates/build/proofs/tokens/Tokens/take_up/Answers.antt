@@ -6,4 +6,7 @@ use Rattle.build.proofs.tokens.Tokens.take_up.Goals as goal
 pub returns : goal.returns
 returns c =
     let xs = vec_items c.args.self.now.held in
-    ap (λ l. reverse (map held l)) c.push_reserved.ensures.items ∙ ap reverse (map_push held xs c.args.token) ∙ reverse-append (map held xs) (held c.args.token ∷ [])
+    record {
+      after = ap (λ l. reverse (map held l)) c.push_reserved.ensures.items ∙ ap reverse (map_push held xs c.args.token) ∙ reverse-append (map held xs) (held c.args.token ∷ []);
+      capacity = c.push_reserved.ensures.capacity;
+    }

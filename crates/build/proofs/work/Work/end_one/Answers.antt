@@ -17,7 +17,7 @@ note_loss-requires c =
     let so = fits c.args.self.now in
     let one = one_to_end (model e) c.args.end.node (omega (arith, so.whole, c.requires.node)) c.requires.runs in
     let hand = length_hand e.tokens in
-    record { listed = omega (arith, so.listed, noted_long e.losses); room = omega (arith, so.few, so.small, so.noted, hand, e.tokens.held.ok.0) }
+    record { listed = omega (arith, so.listed, noted_long e.losses, e.losses.ample); room = omega (arith, so.few, so.small, so.noted, hand, e.tokens.held.ok.0, e.losses.spare) }
 
 pub note-requires : goal.note-requires
 note-requires c =
@@ -41,7 +41,7 @@ invariant_of-self c =
     let so = leaves_set e n c.accept.new.self (vec_len e.tokens.held) (vec_len e.losses.jobs + 1) (vec_len e.losses.bytes + 200) c.requires.node (omega (arith, ap unstarted state, ended_unstarted how)) (omega (arith, ap unended state, ended_over how, ap unended runs)) (omega (arith, ap unended state, ended_over how, ap unended runs)) in
     let after = c.note_loss.new.losses in
     let listed : vec_len after.jobs + to_end (set b.nodes n c.accept.new.self) ≤ 200 = omega (arith, so.listed, ap length c.note_loss.ensures.after, noted_few how n b, noted_long e.losses, noted_long after, e.losses.jobs.ok.0, after.jobs.ok.0) in
-    record { whole = e.whole; wide = e.wide; few = so.few; listed = listed; noted = omega (arith, so.noted, c.note_loss.ensures.used, e.few, (fits e).whole, (fits e).small, e.whole) }
+    record { whole = e.whole; wide = e.wide; few = so.few; listed = listed; noted = omega (arith, so.noted, c.note_loss.ensures.memory.used, e.few, (fits e).whole, (fits e).small, e.whole) }
 
 pub returns : goal.returns
 returns c =

@@ -1,7 +1,7 @@
-use Rattle.std.proofs.Common.{◌≡◌, ◌+◌, true, false, sym, ap, ◌∙◌, ⊎_elim, arith}
+use Rattle.std.proofs.Common.{◌≡◌, ◌+◌, sym, ap, ◌∙◌, ⊎_elim, arith}
 use Rattle.rules.specs.declared.progress.State.TheVariants.{Waiting, Running, Good, Failed}
 use Rattle.build.specs.Models.{model}
-use Rattle.build.proofs.Seeking.{sought, sought_past, sought_on, sought_at}
+use Rattle.build.proofs.Seeking.{then_is, sought, sought_past, sought_on, sought_at}
 use Rattle.build.proofs.work.Work.first_waiting.Goals as goal
 use Rattle.build.proofs.work.Work.first_waiting.Goals.{in-Running, in-Good}
 
@@ -10,18 +10,12 @@ loop-k-preserved-then-make_of-m c =
     let b = model c.args.self.now in
     sym (sought_on b c.args.m c.loop-k.free c.loop-k.ended c.loop-k.k (omega arith) (λ e. omega arith)) ∙ c.loop-k.invariant
 
-pub returns-then-free : goal.returns-then-free
-returns-then-free c =
+pub returns-in-Waiting : goal.returns-in-Waiting
+returns-in-Waiting c =
     let b = model c.args.self.now in
     let same : b.plan.make c.loop-k.k ≡ c.args.m = omega arith in
-    sym (sought_at b c.args.m c.loop-k.free c.loop-k.ended c.loop-k.k (omega arith) same true c.if-free.ensures Waiting (sym c.in-Waiting.is ∙ ap (λ x. x.state) c.progress.ensures))
-    ∙ c.loop-k.invariant
-
-pub returns-else-free : goal.returns-else-free
-returns-else-free c =
-    let b = model c.args.self.now in
-    let same : b.plan.make c.loop-k.k ≡ c.args.m = omega arith in
-    sym (sought_at b c.args.m c.loop-k.free c.loop-k.ended c.loop-k.k (omega arith) same false c.if-free.ensures Waiting (sym c.in-Waiting.is ∙ ap (λ x. x.state) c.progress.ensures))
+    c.then_some.ensures ∙ then_is c.freed-free.result c.loop-k.k
+    ∙ sym (sought_at b c.args.m c.loop-k.free c.loop-k.ended c.loop-k.k (omega arith) same c.freed-free.result c.freed-free.ensures Waiting (sym c.in-Waiting.is ∙ ap (λ x. x.state) c.progress.ensures))
     ∙ c.loop-k.invariant
 
 pub loop-k-preserved : goal.loop-k-preserved

@@ -13,7 +13,7 @@ pub invariant_of-self : goal.invariant_of-self
 invariant_of-self g c =
     let e = c.args.self.now in
     let left = c.give_back.new.self in
-    let fewer = gave_fewer c.args.m (in_hand e.tokens) c.give_back.result (in_hand left) c.give_back.ensures in
+    let fewer = gave_fewer c.args.m (in_hand e.tokens) c.give_back.result (in_hand left) c.give_back.ensures.after in
     record {
       whole = e.whole;
       wide = e.wide;
@@ -27,7 +27,7 @@ returns-in_default g c =
     let w = g.P.Lender.ways in
     let e = c.args.self.now in
     let b = model e in
-    let none = gave_none c.args.m _ _ c.in_default.ensures in
+    let none = gave_none c.args.m _ _ c.in_default.ensures.after in
     let same = none.1 in
     record {
       after = put_none_leads w b c.args.m _ _ _ e.written (omega (arith, c.requires.room)) none.0 (ap (with_tokens b) same);
@@ -41,14 +41,14 @@ returns-in_default g c =
 
 pub unwrap-requires : goal.unwrap-requires
 unwrap-requires g c =
-    put_goes g.P.Lender.ways _ _ _ c.put.result c.put.ensures (omega (arith, back_out g.P.Lender.ways _ _ _ _ _ c.requires.backed c.in-Some.ensures))
+    put_goes g.P.Lender.ways _ _ _ c.put.result c.put.ensures (omega (arith, back_out g.P.Lender.ways _ _ _ _ _ c.requires.backed c.in-Some.ensures.after))
 
 pub returns : goal.returns
 returns g c =
     let w = g.P.Lender.ways in
     let e = c.args.self.now in
     let b = model e in
-    let found = c.in-Some.ensures in
+    let found = c.in-Some.ensures.after in
     let back = subst (λ r. Put w c.args.pool.now c.in-Some.byte r c.put.new.self) c.unwrap.ensures c.put.ensures in
     let left = in_hand c.give_back.new.self in
     let noted = c.note.ensures.after in

@@ -48,6 +48,7 @@ returns c =
     record {
       after = record {
         build = λ i. record { plan = plan_of (copied i); keep = c.args.keep; nodes = nodes i; tokens = reverse (map held (c.clear-2.ensures.items i)); losses = losses_by (reverse (c.clear-3.ensures.items i)) (c.clear-4.ensures.items i) };
+        none = c.clear-4.ensures.len;
         written = refl;
       };
     }

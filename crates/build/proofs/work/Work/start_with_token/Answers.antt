@@ -13,7 +13,7 @@ take_up-requires c =
     let so = fits e in
     let may = c.requires.start in
     let one = one_to_start (model e) c.args.start.child (omega (arith, so.whole, may.child)) may.unbegun in
-    omega (arith, so.few, so.small, length_hand e.tokens, e.tokens.held.ok.0)
+    omega (arith, so.few, so.small, length_hand e.tokens, e.tokens.held.ok.0, e.tokens.room)
 
 pub note-requires : goal.note-requires
 note-requires c =
@@ -25,7 +25,7 @@ pub invariant_of-self : goal.invariant_of-self
 invariant_of-self c =
     let e = c.args.self.now in
     let so = leaves_started e c.args.start.child c.index_mut.result.now c.accept.new.self c.requires.start.child c.index_mut.ensures.value c.accept.ensures.after c.requires.start.unbegun in
-    record { whole = e.whole; wide = e.wide; few = omega (arith, so.few, ap length c.take_up.ensures, length_hand e.tokens, length_hand c.take_up.new.self, e.tokens.held.ok.0, c.take_up.new.self.held.ok.0); listed = so.listed; noted = so.noted }
+    record { whole = e.whole; wide = e.wide; few = omega (arith, so.few, ap length c.take_up.ensures.after, length_hand e.tokens, length_hand c.take_up.new.self, e.tokens.held.ok.0, c.take_up.new.self.held.ok.0); listed = so.listed; noted = so.noted }
 
 pub returns : goal.returns
 returns c =
@@ -39,6 +39,6 @@ returns c =
     let ts = record { by = c.args.start.make; byte = c.args.byte } ∷ b.tokens in
     let after : Build = with_tokens (in_state b n Running) ts in
     record {
-      after = changed_by e after 0 c.note.ensures.after refl (λ i. altered b n (node i) (c.take_up.ensures i) b.losses)
+      after = changed_by e after 0 c.note.ensures.after refl (λ i. altered b n (node i) (c.take_up.ensures.after i) b.losses)
           (omega (arith, started_room b n place may.unbegun));
     }

@@ -1,4 +1,4 @@
-use Rattle.std.proofs.Common.{vec_items, sym, ◌∙◌, subst, arith}
+use Rattle.std.proofs.Common.{vec_items, sym, refl, ◌∙◌, subst, arith}
 use Rattle.pool.specs.Meaning.{Taken}
 use Rattle.pool.proofs.Totals.{total_more}
 use Rattle.drain.specs.Draining.{ObtainedAll}
@@ -12,6 +12,7 @@ loop-grant-init g c =
     record {
       so_far = obtaining_none _ _ _ _ (sym held.ok.0 ∙ c.requires.empty.0) (sym events.ok.0 ∙ c.requires.empty.1);
       told = omega arith;
+      wide = refl;
       out = omega arith;
     }
 
@@ -23,6 +24,7 @@ loop-grant-preserved g c =
     record {
       so_far = obtaining_more w _ (vec_items c.loop-grant.self.held) (vec_items c.push_reserved-in-Some.new.self) (vec_items c.loop-grant.self.events) (vec_items c.push_reserved.new.self) _ _ c.in-Some.grant c.standing.result inv.so_far c.in-Some.ensures.after taken (c.standing.ensures.byte ∙ c.byte.ensures.result) c.standing.ensures.stands c.push_reserved-in-Some.ensures.items c.push_reserved.ensures.items;
       told = omega (arith, inv.told, c.push_reserved.ensures.len, c.push_reserved-in-Some.ensures.len);
+      wide = c.push_reserved.ensures.capacity ∙ inv.wide;
       out = omega (arith, inv.out, total_more _ _ _ 1 taken.byte taken.outs, c.push_reserved-in-Some.ensures.len);
     }
 
@@ -30,3 +32,6 @@ pub returns-clause-after : goal.returns-clause-after
 returns-clause-after g c =
     let ended = c.in_default.ensures.after in
     subst (ObtainedAll g.P.Lender.ways c.args.pool.now (vec_items c.loop-grant.self.held) (vec_items c.push_reserved-2.new.self)) (sym ended.1) (obtaining_all _ _ _ _ _ _ c.loop-grant.invariant.so_far ended.0 c.push_reserved-2.ensures.items)
+
+pub returns-clause-capacity : goal.returns-clause-capacity
+returns-clause-capacity g c = c.push_reserved-2.ensures.capacity ∙ c.loop-grant.invariant.wide

@@ -19,5 +19,5 @@ pub loop-grant-preserved : goal.loop-grant-preserved
 loop-grant-preserved g c =
     let back = subst (λ r. Release g.P.Lender.ways c.loop-grant.pool c.in-Some.grant r c.release.new.lender) c.unwrap.ensures c.release.ensures.after in (
       releasing_more _ _ _ _ _ _ _ (vec_items c.push_reserved.new.self) _ _ c.in-Some.grant c.standing.result c.loop-grant.invariant.0 c.in-Some.ensures.items back (g.met.P.Lender.returned _ _ _ back) (c.standing.ensures.byte ∙ c.byte-byte.ensures.result) c.standing.ensures.stands c.push_reserved.ensures.items,
-      omega (arith, c.loop-grant.invariant.1, c.in-Some.ensures.cases, c.push_reserved.ensures.len),
+      omega (arith, c.loop-grant.invariant.1, c.in-Some.ensures.cases, c.push_reserved.ensures.len, c.push_reserved.ensures.capacity),
     )
