@@ -1,9 +1,13 @@
 -- What a chain of the library answers, in the words of the rules. Assumes nothing.
-use Rattle.std.proofs.Common.{◌≡◌, ℕ, zero, suc, ◌+◌, ◌<◌, Bool, true, false, cond, ◌&&◌, ◌||◌, eqb, List, [], ◌∷◌, ◌++◌, map, reverse, take, drop, length, Some, None, Option, sym, refl, ap, ◌∙◌, subst, arith}
-use Rattle.std.proofs.lemmas.Iterator.{YieldsList}
+use Rattle.std.proofs.Common.{◌≡◌, ℕ, zero, suc, ◌+◌, ◌-◌, ◌<◌, Bool, true, false, cond, ◌&&◌, ◌||◌, eqb, List, [], ◌∷◌, ◌++◌, map, reverse, take, drop, length, Some, None, Option, sym, refl, ap, ◌∙◌, subst, arith}
+use Rattle.std.proofs.iter.Yields.{nat_range_steps}
+use Rattle.std.specs.declared.ops.Range.{Range}
+use Rattle.std.proofs.lemmas.Iterator.{YieldsList, YieldsList-from_range}
+use Rattle.std.proofs.lemmas.Iterator.Search.{any_from_yields_List}
 use Rattle.std.proofs.lemmas.Iterator.Consumers.{YieldsList-so_far, YieldsList-end}
 use Rattle.std.proofs.lemmas.List.{take-append-drop, map-id, map-append, reverse-append}
 use Rattle.std.specs.Bool.{IsTrue}
+use Rattle.std.specs.Iterator.{ChecksAny}
 use Rattle.std.specs.Iterator.Runs.{SomeRun, YieldsRun, CallKeepsClosure, AllItemsGive, IsFirstToGive}
 use Rattle.std.specs.List.{range_with_len, filter, list_any, slice_get}
 use Rattle.std.specs.Option.{MatchOption, IfSome, IsSomeAnd, option_map}
@@ -11,7 +15,8 @@ use denote.Param.Members.{Mut, Called}
 use Rattle.pool.specs.Meaning.{count}
 use Rattle.pool.proofs.Counts.{count_append}
 use Rattle.std.proofs.lemmas.Bool.Decides.{nat_tests}
-use Rattle.rules.specs.Builds.{Held}
+use Rattle.rules.specs.Builds.{Build, Held}
+use Rattle.rules.specs.Plans.{is_make, children, all_makes}
 use Rattle.rules.specs.Lists.{numbers, those, put_if, any, first_of, or_else, when}
 use Rattle.build.specs.Hands.{in_hands}
 use Rattle.build.specs.Models.{held}
@@ -156,3 +161,16 @@ first_from_yields_List {S} {A} {C} {D} {F} {steps} {g} {s} {all} w h f r (p, fro
         (λ k less. given_at (slice_get p.items k) None (subst (λ o. IsSomeAnd o (λ x. Called g f (x, tt) None f)) (seen k) (parts.1 k less)))
         (given_at (slice_get p.items i) (Some y) (subst (λ o. IsSomeAnd o (λ x. Called g f (x, tt) (Some y) f)) (seen i) parts.0)))
         ∙ ap (λ l. first_of h (l ++ drop (length p.items) all)) front ∙ ap (first_of h) (take-append-drop (length p.items) all)
+
+-- along the children of a make, and along all makes, as the code asks of each number in turn
+pub any_child : {F : Type 0} {g : Mut F (ℕ × Unit {0}) Bool} (b : Build) (m : ℕ) (p : ℕ → Bool) (n : ℕ) (f : F) (s u : Range ℕ) (r : Bool) → ChecksAny nat_range_steps g s f r u → s ≡ record { start = 1; end = n } → n ≡ b.plan.nodes → ((x : ℕ) (t : Bool) (q : F) → Called g f (x, tt) t q → (q ≡ f) × (t ≡ (eqb (b.plan.make x) m && p x))) → r ≡ any p (children b.plan m)
+any_child b m p n f s u r ran from all asked =
+    any_from_yields_List (λ x. eqb (b.plan.make x) m && p x) u f r ran (YieldsList-from_range 1 n (n - 1) from refl) asked
+    ∙ any_number p (λ k. eqb (b.plan.make k) m) 1 (n - 1)
+    ∙ ap (λ j. any p (those (λ k. eqb (b.plan.make k) m) (numbers 1 (j - 1)))) all
+
+pub first_make : {C D F : Type 0} {g : Mut F (ℕ × Unit {0}) (Option C)} (b : Build) (w : C → D) (h : ℕ → Option D) (n : ℕ) (f : F) (s : Range ℕ) (r : Option C) → SomeRun nat_range_steps s (λ p. MatchOption r (IsTrue p.whole × AllItemsGive p g f None) (λ y. (i : ℕ) × (i < p.len) × (p.len ≡ i + 1) × IsFirstToGive p g f (Some y) None i)) → s ≡ record { start = 0; end = n } → n ≡ b.plan.nodes → ((x : ℕ) (o : Option C) (q : F) → Called g f (x, tt) o q → (q ≡ f) × (option_map w o ≡ when (is_make b.plan x) (λ _. h x))) → option_map w r ≡ first_of h (all_makes b.plan)
+first_make b w h n f s r runs from all asked =
+    first_from_yields_List w (λ x. when (is_make b.plan x) (λ _. h x)) f r runs (YieldsList-from_range 0 n n from (omega arith)) asked
+    ∙ first_number h (is_make b.plan) 0 n
+    ∙ ap (λ j. first_of h (those (is_make b.plan) (numbers 0 j))) all
