@@ -2,4 +2,10 @@
 #![tactic(auto)]
 
 #[cfg(test)]
+mod calls;
+#[cfg(test)]
+mod elsewhere;
+#[cfg(test)]
+mod refused;
+#[cfg(test)]
 mod worked;

@@ -1,27 +1,30 @@
-// The worked builds, call by call.
+// Whole rows of calls on trees of several shapes, the worked builds first.
+use crate::calls::{Call, pipe_of, tree_of, written};
 use build::Build;
-use pipe::Pipe;
-use rules::Refusal;
-use script::read_script;
 use std::test::Fail;
-use tree::Tree;
 
-const SCRIPT: &str = "job a 2\nmake lib\njob b 1\nfail c 2\njob d 1\ndone\nwait\njob e 1\n";
+// A job, a make with three children, one of which fails, and a job behind a wait.
+const WORKED: &str = "job a 2\nmake lib\njob b 1\nfail c 2\njob d 1\ndone\nwait\njob e 1\n";
 
-// 7 + 12 for each of the 7 nodes + 2 for each of the 7 steps.
-const NEEDED: usize = 105;
+// Makes alone under the top make.
+const MAKES: &str = "make a\njob b 1\ndone\nmake c\njob d 2\ndone\n";
 
-// A call as data, so that the rows below can be constants.
-enum Call {
-    Step(u32),
-    Kill(u32),
-    Poll,
-    Halt,
-}
+// A failing job on each of three levels, and a job beside each.
+const FAILURES: &str =
+    "make a\nmake b\nfail c 1\njob d 1\ndone\nfail e 1\ndone\njob f 1\nfail g 1\n";
 
-// What is written by an open on a pipe of these tokens and the calls, the jobs that run at last, and whether the build is
-// finished.
+// As deep as a tree can be.
+const DEEP: &str =
+    "make a\nmake b\nmake c\nmake d\nmake e\nmake f\nmake g\njob h 1\ndone\ndone\ndone\ndone\ndone\ndone\ndone\n";
+
+// The longest of the buffers: 7 + 12 for each of 9 nodes + 2 for one step.
+const LONGEST: usize = 117;
+
+// A tree, how long its buffer is, what is written by an open on a pipe of these tokens and the calls, the jobs that run at
+// last, and whether the build is finished.
 struct Row {
+    script: &'static str,
+    needed: usize,
     tokens: &'static [u8],
     keep: bool,
     calls: &'static [Call],
@@ -30,8 +33,10 @@ struct Row {
     finished: bool,
 }
 
-const ROWS: [Row; 7] = [
+const ROWS: [Row; 11] = [
     Row {
+        script: WORKED,
+        needed: 105,
         tokens: b"xy",
         keep: false,
         calls: &[],
@@ -40,6 +45,8 @@ const ROWS: [Row; 7] = [
         finished: false,
     },
     Row {
+        script: WORKED,
+        needed: 105,
         tokens: b"xy",
         keep: false,
         calls: &[
@@ -55,6 +62,8 @@ const ROWS: [Row; 7] = [
         finished: true,
     },
     Row {
+        script: WORKED,
+        needed: 105,
         tokens: b"xy",
         keep: true,
         calls: &[
@@ -71,6 +80,8 @@ const ROWS: [Row; 7] = [
         finished: true,
     },
     Row {
+        script: WORKED,
+        needed: 105,
         tokens: b"",
         keep: false,
         calls: &[Call::Step(1), Call::Step(1)],
@@ -79,6 +90,8 @@ const ROWS: [Row; 7] = [
         finished: false,
     },
     Row {
+        script: WORKED,
+        needed: 105,
         tokens: b"xy",
         keep: false,
         calls: &[Call::Halt],
@@ -87,6 +100,8 @@ const ROWS: [Row; 7] = [
         finished: true,
     },
     Row {
+        script: WORKED,
+        needed: 105,
         tokens: b"xy",
         keep: false,
         calls: &[Call::Kill(1)],
@@ -95,6 +110,8 @@ const ROWS: [Row; 7] = [
         finished: false,
     },
     Row {
+        script: WORKED,
+        needed: 105,
         tokens: b"xy",
         keep: false,
         calls: &[Call::Poll],
@@ -102,76 +119,81 @@ const ROWS: [Row; 7] = [
         running: 3,
         finished: false,
     },
+    // a halt while all running children of the top make are makes
+    Row {
+        script: MAKES,
+        needed: 73,
+        tokens: b"xy",
+        keep: false,
+        calls: &[Call::Halt],
+        written: b"O\x03\x00\x05A\x00\x01A\x01\x02T\x00\x03xA\x03\x04HF\x02\x04F\x01\x03R\x00xF\x04\x04F\x03\x03F\x00\x03D\x01",
+        running: 0,
+        finished: true,
+    },
+    // failures on three levels, one job after the other
+    Row {
+        script: FAILURES,
+        needed: 113,
+        tokens: b"",
+        keep: true,
+        calls: &[
+            Call::Step(3),
+            Call::Step(4),
+            Call::Step(5),
+            Call::Step(6),
+            Call::Step(7),
+        ],
+        written: b"O\x01\x01\x08A\x00\x01A\x01\x02A\x02\x03S\x03F\x03\x01A\x02\x04S\x04E\x04F\x02\x03A\x01\x05S\x05F\x05\x01F\x01\x03A\x00\x06S\x06E\x06A\x00\x07S\x07F\x07\x01F\x00\x03D\x01",
+        running: 0,
+        finished: true,
+    },
+    // the same with two tokens, from the top level down
+    Row {
+        script: FAILURES,
+        needed: 113,
+        tokens: b"pq",
+        keep: true,
+        calls: &[
+            Call::Step(7),
+            Call::Step(3),
+            Call::Step(5),
+            Call::Step(4),
+            Call::Step(6),
+        ],
+        written: b"O\x03\x01\x08A\x00\x01A\x01\x02A\x02\x03T\x00\x06pT\x00\x07qS\x07F\x07\x01R\x00qT\x01\x05qS\x03F\x03\x01A\x02\x04S\x05F\x05\x01R\x01qS\x04E\x04F\x02\x03F\x01\x03R\x00pS\x06E\x06F\x00\x03D\x01",
+        running: 0,
+        finished: true,
+    },
+    // makes on eight levels end one after the other
+    Row {
+        script: DEEP,
+        needed: 117,
+        tokens: b"",
+        keep: false,
+        calls: &[Call::Step(8)],
+        written: b"O\x01\x00\x09A\x00\x01A\x01\x02A\x02\x03A\x03\x04A\x04\x05A\x05\x06A\x06\x07A\x07\x08S\x08E\x08E\x07E\x06E\x05E\x04E\x03E\x02E\x01E\x00D\x00",
+        running: 0,
+        finished: true,
+    },
 ];
 
-fn carried_out(
-    build: &mut Build,
-    call: &Call,
-    pipe: &mut Pipe,
-    buffer: &mut [u8],
-) -> Result<u32, Refusal> {
-    match call {
-        Call::Step(node) => build.step(*node, pipe, buffer),
-        Call::Kill(node) => build.kill(*node, pipe, buffer),
-        Call::Poll => build.poll(pipe, buffer),
-        Call::Halt => build.halt(pipe, buffer),
-    }
-}
-
 #[test]
-fn written(rt: HostRuntime) -> Result<(), Fail> {
-    let mut tree = Tree::new(rt.alloc())?;
-    read_script(&mut tree, rt.alloc(), SCRIPT.as_bytes())?;
+fn each_row(rt: HostRuntime) -> Result<(), Fail> {
     for row in &ROWS {
-        let mut pipe = Pipe::new();
-        pipe.fill(row.tokens)?;
-        let mut buffer = [0; NEEDED];
+        let tree = tree_of(&rt, row.script)?;
+        let mut pipe = pipe_of(row.tokens)?;
+        let mut buffer = [0; LONGEST];
         let mut build = Build::new(rt.alloc())?;
         assert!(rt; build.is_finished());
-        let mut running = build.open(&tree, row.keep, &mut pipe, &mut buffer)?;
-        assert_eq!(rt; build.needed_len(), NEEDED);
+        assert!(rt; row.needed <= LONGEST);
+        let mut running = build.open(&tree, row.keep, &mut pipe, &mut buffer[..row.needed])?;
+        assert_eq!(rt; build.needed_len(), row.needed);
         for call in row.calls {
-            running = carried_out(&mut build, call, &mut pipe, &mut buffer)?;
+            running = call.carry_out(&mut build, &mut pipe, &mut buffer[..row.needed])?;
         }
         assert_eq!(rt; running, row.running);
         assert_eq!(rt; build.is_finished(), row.finished);
-        let len = build.written_len();
-        assert!(rt; len <= NEEDED);
-        assert_eq!(rt; &buffer[..len], row.written);
+        assert_eq!(rt; written(&rt, &build, &buffer), row.written);
     }
-    Ok(())
-}
-
-#[test]
-fn refused(rt: HostRuntime) -> Result<(), Fail> {
-    let mut tree = Tree::new(rt.alloc())?;
-    read_script(&mut tree, rt.alloc(), SCRIPT.as_bytes())?;
-    let mut pipe = Pipe::new();
-    pipe.fill(b"xy")?;
-    let mut buffer = [0; NEEDED];
-    let mut build = Build::new(rt.alloc())?;
-    assert_eq!(rt; build.poll(&mut pipe, &mut buffer), Err(Refusal::Finished));
-    assert_eq!(rt;
-        build.open(&tree, false, &mut pipe, &mut buffer[1..]),
-        Err(Refusal::ShortBuffer)
-    );
-    assert_eq!(rt; build.open(&tree, false, &mut pipe, &mut buffer), Ok(3));
-    assert_eq!(rt;
-        build.open(&tree, false, &mut pipe, &mut buffer),
-        Err(Refusal::TokensOut)
-    );
-    assert_eq!(rt;
-        build.step(2, &mut pipe, &mut buffer),
-        Err(Refusal::NotRunningJob)
-    );
-    assert_eq!(rt;
-        build.kill(7, &mut pipe, &mut buffer),
-        Err(Refusal::NotRunningJob)
-    );
-    let mut empty = Pipe::new();
-    assert_eq!(rt;
-        build.halt(&mut empty, &mut buffer),
-        Err(Refusal::TokensMissing)
-    );
     Ok(())
 }

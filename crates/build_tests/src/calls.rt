@@ -1,0 +1,51 @@
+// What the tables share: calls as data, so that rows can be constants, and what a build is made on.
+use build::Build;
+use pipe::Pipe;
+use rules::Refusal;
+use script::read_script;
+use std::process::Abort;
+use std::test::Fail;
+use tree::Tree;
+
+#[derive(Clone, Copy)]
+pub enum Call {
+    Step(u32),
+    Kill(u32),
+    Poll,
+    Halt,
+}
+
+impl Call {
+    pub fn carry_out(
+        self,
+        build: &mut Build,
+        pipe: &mut Pipe,
+        buffer: &mut [u8],
+    ) -> Result<u32, Refusal> {
+        match self {
+            Call::Step(node) => build.step(node, pipe, buffer),
+            Call::Kill(node) => build.kill(node, pipe, buffer),
+            Call::Poll => build.poll(pipe, buffer),
+            Call::Halt => build.halt(pipe, buffer),
+        }
+    }
+}
+
+pub fn tree_of(rt: &HostRuntime, script: &str) -> Result<Tree, Fail> {
+    let mut tree = Tree::new(rt.alloc())?;
+    read_script(&mut tree, rt.alloc(), script.as_bytes())?;
+    Ok(tree)
+}
+
+pub fn pipe_of(tokens: &[u8]) -> Result<Pipe, Fail> {
+    let mut pipe = Pipe::new();
+    pipe.fill(tokens)?;
+    Ok(pipe)
+}
+
+// What the build has written into the buffer.
+pub fn written<'a>(rt: &impl Abort, build: &Build, buffer: &'a [u8]) -> &'a [u8] {
+    let len = build.written_len();
+    assert!(rt; len <= buffer.len());
+    &buffer[..len]
+}
