@@ -1,15 +1,17 @@
 -- What a chain of the library answers, in the words of the rules. Assumes nothing.
-use Rattle.std.proofs.Common.{◌≡◌, ℕ, zero, suc, ◌+◌, ◌-◌, ◌<◌, Bool, true, false, cond, ◌&&◌, ◌||◌, eqb, List, [], ◌∷◌, ◌++◌, map, reverse, take, drop, length, Some, None, Option, sym, refl, ap, ◌∙◌, subst, arith}
+use Rattle.std.proofs.Common.{◌≡◌, ℕ, zero, suc, ◌+◌, ◌-◌, ◌<◌, ◌≤◌, Bool, true, false, cond, ◌&&◌, ◌||◌, eqb, List, [], ◌∷◌, ◌++◌, map, reverse, take, drop, length, Some, None, Option, sym, refl, ap, ◌∙◌, subst, ⊎_elim, arith}
 use Rattle.std.proofs.iter.Yields.{nat_range_steps}
 use Rattle.std.specs.declared.ops.Range.{Range}
 use Rattle.std.proofs.lemmas.Iterator.{YieldsList, YieldsList-from_range}
 use Rattle.std.proofs.lemmas.Iterator.Search.{any_from_yields_List}
 use Rattle.std.proofs.lemmas.Iterator.Consumers.{YieldsList-so_far, YieldsList-end}
 use Rattle.std.proofs.lemmas.List.{take-append-drop, map-id, map-append, reverse-append}
+use Rattle.std.proofs.lemmas.Bool.{cases_eq}
+use Rattle.std.specs.Array.{IsFromFnResultFrom}
 use Rattle.std.specs.Bool.{IsTrue}
 use Rattle.std.specs.Iterator.{ChecksAny}
 use Rattle.std.specs.Iterator.Runs.{SomeRun, YieldsRun, CallKeepsClosure, AllItemsGive, IsFirstToGive}
-use Rattle.std.specs.List.{range_with_len, filter, list_any, slice_get}
+use Rattle.std.specs.List.{range_with_len, filter, list_any, slice_get, slice_index_or}
 use Rattle.std.specs.Option.{MatchOption, IfSome, IsSomeAnd, option_map}
 use denote.Param.Members.{Mut, Called}
 use Rattle.pool.specs.Meaning.{count}
@@ -174,3 +176,13 @@ first_make b w h n f s r runs from all asked =
     first_from_yields_List w (λ x. when (is_make b.plan x) (λ _. h x)) f r runs (YieldsList-from_range 0 n n from (omega arith)) asked
     ∙ first_number h (is_make b.plan) 0 n
     ∙ ap (λ j. first_of h (those (is_make b.plan) (numbers 0 j))) all
+
+-- an array made by a call for each place has at each what the call answers there
+pub made_from : {F B : Type 0} {g : Mut F (ℕ × Unit {0}) B} (h : ℕ → B) (f : F) (ys : List B) (i n : ℕ) → IsFromFnResultFrom g f ys i n → ((x : ℕ) (t : B) (q : F) → x < i + n → Called g f (x, tt) t q → (q ≡ f) × (t ≡ h x)) → (k : ℕ) (d : B) → i ≤ k → k < i + n → slice_index_or ys k d ≡ h k
+made_from h f ys i zero made asked k d from below = absurd (omega arith)
+made_from {F} {B} {g} h f ys i (suc n) (q, y, is, called, rest) asked k d from below =
+    let one = asked i y q (omega arith) called in
+    ⊎_elim
+    (λ same. subst (λ j. slice_index_or ys j d ≡ h j) same (is.1 d ∙ one.1))
+    (λ apart. made_from h q ys (i + 1) n rest (λ x t r less c. subst (λ p. Called g p (x, tt) t r → (r ≡ p) × (t ≡ h x)) (sym one.0) (asked x t r (omega (arith, less))) c) k d (omega arith) (omega arith))
+    (cases_eq i k)

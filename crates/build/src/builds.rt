@@ -5,6 +5,7 @@ ghost use Rattle.law.specs.Always.{unopened as never_opened};
 ghost use Rattle.law.specs.Calls.{Called, Opened};
 ghost use Rattle.law.specs.Calls as requests;
 ghost use Rattle.law.specs.Law.{LawFrom, ReadsBackFrom};
+ghost use Rattle.law.specs.Rounds.{RoundsCalled, TracesGoOn};
 ghost use Rattle.rules.specs.Builds.{finished};
 ghost use Rattle.rules.specs.Plans.{plan_of, needed};
 ghost use Rattle.tree.specs.Questions.{nodes_of, fresh};
@@ -81,6 +82,16 @@ impl Build {
         ensures unaltered { OnErr result (self.new.work ≡ self.old.work) }
     {
         self.work.halt(pool, buffer)
+    }
+
+    // Rounds until the finish: in each, every job that runs at its start does one step, in rising number. Answers the number
+    // of steps taken.
+    pub fn rounds<P: Lender>(&mut self, pool: &mut P, buffer: &mut [u8]) -> Result<u32, Refusal>
+        ensures after { RoundsCalled P.Lender.ways (place self.old) pool.old buffer.old result (place self.new) pool.new buffer.new }
+        ensures unaltered { OnErr result (self.new.work ≡ self.old.work) }
+        ensures law { OnOk result (TracesGoOn P.Lender.ways (place self.old) pool.old (place self.new) pool.new) }
+    {
+        self.work.rounds(pool, buffer)
     }
 
     // How many bytes of the schedule are written.

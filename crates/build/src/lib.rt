@@ -13,6 +13,7 @@ mod noting;
 mod opening;
 mod questions;
 mod refusals;
+mod rounds;
 mod searches;
 mod start;
 mod starting;

@@ -13,6 +13,7 @@ pub enum Call {
     Kill(u32),
     Poll,
     Halt,
+    Rounds,
 }
 
 impl Call {
@@ -27,6 +28,7 @@ impl Call {
             Call::Kill(node) => build.kill(node, pipe, buffer),
             Call::Poll => build.poll(pipe, buffer),
             Call::Halt => build.halt(pipe, buffer),
+            Call::Rounds => build.rounds(pipe, buffer),
         }
     }
 }

@@ -1,6 +1,7 @@
-// Calls on another pool, another buffer and another tree than those of the open before, and a make with 63 tokens.
+// Calls on another pool, another buffer and another tree than those of the open before, and the largest builds.
 use crate::calls::{pipe_of, tree_of, written};
 use build::Build;
+use layers::LoadLimit;
 use pool::{Lender, Pool};
 use rules::Refusal;
 use std::test::Fail;
@@ -118,6 +119,46 @@ fn sixty_three_tokens(rt: HostRuntime) -> Result<(), Fail> {
     }
     assert!(rt; build.is_finished());
     assert_eq!(rt; pipe.ready(), 63);
+    assert_eq!(rt; written(&rt, &build, &buffer), expected.as_slice());
+    Ok(())
+}
+
+// Where nothing is ever ready, the implicit slots do all the work.
+#[test]
+fn a_load_limit_that_forbids_all(rt: HostRuntime) -> Result<(), Fail> {
+    let tree = tree_of(&rt, JOBS)?;
+    let mut build = Build::new(rt.alloc())?;
+    let mut buffer = [0; NEEDED];
+    let mut pool = LoadLimit::new(pipe_of(b"xy")?, 1);
+    pool.load(100)?;
+    assert_eq!(rt; build.open(&tree, false, &mut pool, &mut buffer), Ok(1));
+    assert_eq!(rt; build.rounds(&mut pool, &mut buffer), Ok(3));
+    assert_eq!(rt; pool.total_out(), 0);
+    assert_eq!(rt;
+        written(&rt, &build, &buffer),
+        b"O\x03\x00\x04A\x00\x01S\x01E\x01A\x00\x02S\x02E\x02A\x00\x03S\x03E\x03E\x00D\x00".as_slice()
+    );
+    Ok(())
+}
+
+// As many jobs as a tree can have, one after the other.
+#[test]
+fn a_hundred_and_ninety_nine_jobs(rt: HostRuntime) -> Result<(), Fail> {
+    let mut script = String::new(rt.alloc());
+    let mut expected = Vec::new(rt.alloc());
+    expected.extend_from_slice(b"O\x01\x00\xc8")?;
+    for job in 1u8..200 {
+        script.push_str("job a 1\n")?;
+        expected.extend_from_slice(&[b'A', 0, job, b'S', job, b'E', job])?;
+    }
+    expected.extend_from_slice(b"E\x00D\x00")?;
+    let tree = tree_of(&rt, script.as_str())?;
+    let mut pipe = pipe_of(b"")?;
+    let mut build = Build::new(rt.alloc())?;
+    // 7 + 12 for each of 200 nodes + 2 for each of 199 steps
+    let mut buffer = [0; 2805];
+    build.open(&tree, false, &mut pipe, &mut buffer)?;
+    assert_eq!(rt; build.rounds(&mut pipe, &mut buffer), Ok(199));
     assert_eq!(rt; written(&rt, &build, &buffer), expected.as_slice());
     Ok(())
 }

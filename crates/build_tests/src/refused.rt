@@ -21,7 +21,13 @@ struct Row {
     refusal: Refusal,
 }
 
-const ALL: [Call; 4] = [Call::Step(1), Call::Kill(1), Call::Poll, Call::Halt];
+const ALL: [Call; 5] = [
+    Call::Step(1),
+    Call::Kill(1),
+    Call::Poll,
+    Call::Halt,
+    Call::Rounds,
+];
 
 const ROWS: [Row; 7] = [
     Row {
@@ -34,7 +40,13 @@ const ROWS: [Row; 7] = [
     // before anything else is looked at
     Row {
         before: Some(Call::Halt),
-        calls: &[Call::Step(2), Call::Kill(7), Call::Poll, Call::Halt],
+        calls: &[
+            Call::Step(2),
+            Call::Kill(7),
+            Call::Poll,
+            Call::Halt,
+            Call::Rounds,
+        ],
         empty: true,
         short: NEEDED,
         refusal: Refusal::ShortBuffer,

@@ -20,3 +20,4 @@ pub mod Following
 pub mod Reading
 pub mod Rounding
 pub mod Sounding
+pub mod Rounds

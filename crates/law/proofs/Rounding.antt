@@ -16,7 +16,7 @@ use Rattle.rules.specs.declared.progress.State.TheVariants.{Waiting, Running, Go
 use Rattle.rules.proofs.Held.{if_holds}
 use Rattle.std.proofs.lemmas.Bool.{and_parts, cases_Bool, not-true, not-false}
 
-left_most : (s : State) (a d : ℕ) → left_of s a d ≤ a
+pub left_most : (s : State) (a d : ℕ) → left_of s a d ≤ a
 left_most Waiting a d = omega arith
 left_most Running a d = omega arith
 left_most Good a d = omega arith

@@ -5,4 +5,5 @@ pub mod Counts
 pub mod Lending
 pub mod Law
 pub mod Sound
+pub mod Rounds
 pub mod Always

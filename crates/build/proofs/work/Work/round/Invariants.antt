@@ -1,0 +1,5 @@
+use Rattle.build.proofs.Turns.{Rounding}
+use Rattle.build.proofs.work.Work.round.Given as goal
+
+abbrev pub invariant-loop-n : goal.invariant-loop-n
+invariant-loop-n g l = Rounding g.P.Lender.ways l.initial.self l.initial.pool l.initial.buffer l.n l.self l.pool l.buffer
