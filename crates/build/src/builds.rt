@@ -1,21 +1,27 @@
-// The calls of a build. Each is handed the pool and the schedule buffer.
-ghost use Rattle.std.specs.Prelude.{◌≡◌, IfOk, OnErr, OnOk};
+// The calls of a build, each of which is handed the pool and the schedule buffer, and what may be asked of it.
+ghost use Rattle.std.specs.Prelude.{◌≡◌, length, IfOk, OnErr, OnOk};
+ghost use Rattle.build.specs.Filling.{Filled};
 ghost use Rattle.build.specs.Places.{place, build_of};
+ghost use Rattle.build.specs.Questions.{told, Listed, ChildlessJob};
 ghost use Rattle.law.specs.Always.{unopened as never_opened};
 ghost use Rattle.law.specs.Calls.{Called, Opened};
 ghost use Rattle.law.specs.Calls as requests;
 ghost use Rattle.law.specs.Law.{LawFrom, ReadsBackFrom};
 ghost use Rattle.law.specs.Rounds.{RoundsCalled, TracesGoOn};
-ghost use Rattle.rules.specs.Builds.{finished};
-ghost use Rattle.rules.specs.Plans.{plan_of, needed};
+ghost use Rattle.rules.specs.Builds.{at, finished, running, tokens_of};
+ghost use Rattle.rules.specs.Lists.{those};
+ghost use Rattle.rules.specs.Plans.{plan_of, needed, children};
+ghost use Rattle.rules.specs.Refusing.{answer};
+ghost use Rattle.rules.specs.Startable.{startable};
 ghost use Rattle.tree.specs.Questions.{nodes_of, fresh};
 
+use crate::faults::Fault;
 use crate::opening::unopened;
 use crate::state::Build;
 use pool::{Lender, Pool};
-use rules::Refusal;
+use rules::{Refusal, State};
 use std::alloc::{AllocError, Global};
-use tree::Tree;
+use tree::{Tree, Unanswered};
 
 impl Build {
     // A finished build over a fresh tree, every node waiting and nothing written, with memory for every tree.
@@ -113,5 +119,56 @@ impl Build {
         ensures result { result ≡ finished (build_of self.now) }
     {
         self.work.is_finished()
+    }
+
+    // Whether the node waits or runs, or how it ended.
+    pub fn state(&self, node: u32) -> Result<State, Unanswered>
+        ensures result { result ≡ told (build_of self.now) node (at (build_of self.now) node).state }
+    {
+        self.work.state(node)
+    }
+
+    // The steps that the node has done.
+    pub fn steps_done(&self, node: u32) -> Result<u32, Unanswered>
+        ensures result { result ≡ told (build_of self.now) node (at (build_of self.now) node).done }
+    {
+        self.work.steps_done(node)
+    }
+
+    // The tokens that the make holds, oldest first; none for a job.
+    pub fn held_tokens(&self, heap: Global, make: u32) -> Result<Vec<u8>, Unanswered>
+        ensures result { Listed (build_of self.now) make (tokens_of (build_of self.now) make) result }
+    {
+        self.work.held_tokens(heap, make)
+    }
+
+    // How many children of the make run; 0 for a job, which has none.
+    pub fn running_children(&self, make: u32) -> Result<u32, Unanswered>
+        ensures result { result ≡ told (build_of self.now) make (length (those (running (build_of self.now)) (children (build_of self.now).plan make))) }
+        ensures law { ChildlessJob (build_of self.now).plan make }
+    {
+        self.work.running_children(make)
+    }
+
+    // The child that the make may start, if any.
+    pub fn startable_child(&self, make: u32) -> Result<Option<u32>, Unanswered>
+        ensures result { result ≡ told (build_of self.now) make (startable (build_of self.now) make) }
+    {
+        self.work.startable_child(make)
+    }
+
+    // How many jobs run.
+    pub fn running_jobs(&self) -> u32
+        ensures result { result ≡ answer (build_of self.now) }
+    {
+        self.work.count_running()
+    }
+
+    // The fault of the node goes into the place. Answers whether there is one: else, and where it is refused, the place stays
+    // as it was.
+    pub fn fault(&self, heap: Global, node: u32, place: &mut Fault) -> Result<bool, Unanswered>
+        ensures after { Filled (build_of self.now) node place.old result place.new }
+    {
+        self.work.fault(heap, node, place)
     }
 }

@@ -1,5 +1,5 @@
 // Why a node failed: the fault of a job, and of a failed make that of its child that failed first. The place for it is the
-// caller's, so that a question with no answer can leave it as it was. No public call asks yet.
+// caller's, so that a question with no answer can leave it as it was.
 ghost use Rattle.std.specs.Prelude.{◌≡◌};
 ghost use Rattle.build.specs.Filling.{shown_fault, no_fault, fault_from, Filled};
 ghost use Rattle.build.specs.Models.{model};

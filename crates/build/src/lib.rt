@@ -22,4 +22,5 @@ mod tokens;
 mod work;
 mod working;
 
+pub use faults::Fault;
 pub use state::Build;

@@ -1,13 +1,11 @@
-// What may be asked of a build. A number that is not in the tree is refused, and the build is never altered. No public call
-// asks yet but for the lengths and the finish.
+// What may be asked of a build at work. A number that is not in the tree is refused, and the build is never altered.
 ghost use Rattle.std.specs.Prelude.{◌≡◌, length, IfOk};
-ghost use Rattle.build.specs.Questions.{Listed, ChildlessJob};
+ghost use Rattle.build.specs.Questions.{told, Listed, ChildlessJob};
 ghost use Rattle.build.specs.Models.{model};
 ghost use Rattle.rules.specs.Builds.{at, running, tokens_of, finished};
 ghost use Rattle.rules.specs.Lists.{those};
 ghost use Rattle.rules.specs.Plans.{children, needed};
 ghost use Rattle.rules.specs.Startable.{startable};
-ghost use Rattle.tree.specs.Questions.{asked};
 
 use crate::work::Work;
 use rules::{Progress, State};
@@ -17,7 +15,7 @@ use tree::Unanswered;
 impl Work {
     // How far the node is, if it is in the tree.
     pub(crate) fn node(&self, n: u32) -> Result<Progress, Unanswered>
-        ensures { result ≡ asked self.now.tree n (at (model self.now) n) }
+        ensures { result ≡ told (model self.now) n (at (model self.now) n) }
     {
         if n >= self.tree.count() {
             return Err(Unanswered::NotInTree);
@@ -27,14 +25,14 @@ impl Work {
 
     // Whether the node waits or runs, or how it ended.
     pub(crate) fn state(&self, n: u32) -> Result<State, Unanswered>
-        ensures result { result ≡ asked self.now.tree n (at (model self.now) n).state }
+        ensures result { result ≡ told (model self.now) n (at (model self.now) n).state }
     {
         Ok(self.node(n)?.state)
     }
 
     // The steps that the node has done.
     pub(crate) fn steps_done(&self, n: u32) -> Result<u32, Unanswered>
-        ensures result { result ≡ asked self.now.tree n (at (model self.now) n).done }
+        ensures result { result ≡ told (model self.now) n (at (model self.now) n).done }
     {
         Ok(self.node(n)?.done)
     }
@@ -50,7 +48,7 @@ impl Work {
 
     // How many children of the make run; 0 for a job, which has none.
     pub(crate) fn running_children(&self, m: u32) -> Result<u32, Unanswered>
-        ensures result { result ≡ asked self.now.tree m (length (those (running (model self.now)) (children (model self.now).plan m))) }
+        ensures result { result ≡ told (model self.now) m (length (those (running (model self.now)) (children (model self.now).plan m))) }
         ensures law { ChildlessJob (model self.now).plan m }
     {
         self.node(m)?;
@@ -59,7 +57,7 @@ impl Work {
 
     // The child that the make may start.
     pub(crate) fn startable_child(&self, m: u32) -> Result<Option<u32>, Unanswered>
-        ensures result { result ≡ asked self.now.tree m (startable (model self.now) m) }
+        ensures result { result ≡ told (model self.now) m (startable (model self.now) m) }
     {
         self.node(m)?;
         Ok(self.startable(m))
@@ -76,7 +74,7 @@ impl Work {
 
     // The tokens that the make holds, oldest first.
     pub(crate) fn held_tokens(&self, heap: Global, m: u32) -> Result<Vec<u8>, Unanswered>
-        ensures result { Listed self.now.tree m (tokens_of (model self.now) m) result }
+        ensures result { Listed (model self.now) m (tokens_of (model self.now) m) result }
     {
         self.node(m)?;
         Ok(self.tokens_of(heap, m)?)

@@ -1,4 +1,4 @@
-use Rattle.std.proofs.Common.{List, IfOk, Ok, Err, Result, ℕ, sym, subst}
+use Rattle.std.proofs.Common.{List, IfOk, Ok, Err, Result, ℕ}
 use Rattle.build.proofs.Keeping.{kept_by, sound_by}
 use Rattle.build.proofs.state.Build.rounds.Goals as goal
 use Rattle.build.specs.Models.{status}

@@ -1,4 +1,4 @@
-use Rattle.std.proofs.Common.{rules, tests, ◌≡◌, ◌%◌, ap, ◌∙◌, arith}
+use Rattle.std.proofs.Common.{rules, tests, arith}
 use Rattle.build.proofs.Chains.{made_from}
 use Rattle.build.proofs.work.Work.jobs_now.Goals as goal
 use Rattle.build.specs.Models.{model}

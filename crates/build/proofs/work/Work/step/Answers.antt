@@ -1,4 +1,4 @@
-use Rattle.std.proofs.Common.{sym, ap, subst, ◌∙◌}
+use Rattle.std.proofs.Common.{sym, ◌∙◌}
 use Rattle.build.proofs.work.Work.step.Goals as goal
 
 pub step_on-requires : goal.step_on-requires
