@@ -95,7 +95,7 @@ impl Build {
     pub fn rounds<P: Lender>(&mut self, pool: &mut P, buffer: &mut [u8]) -> Result<u32, Refusal>
         ensures after { RoundsCalled P.Lender.ways (place self.old) pool.old buffer.old result (place self.new) pool.new buffer.new }
         ensures unaltered { OnErr result (self.new.work ≡ self.old.work) }
-        ensures law { OnOk result (TracesGoOn P.Lender.ways (place self.old) pool.old (place self.new) pool.new) }
+        ensures law { OnOk result (TracesGoOn P.Lender.ways (place self.old) pool.old buffer.old (place self.new) pool.new buffer.new) }
     {
         self.work.rounds(pool, buffer)
     }

@@ -1,5 +1,5 @@
 -- What a row of accepted steps leaves. Assumes nothing.
-use Rattle.std.proofs.Common.{◌≡◌, ℕ, ◌+◌, ◌<◌, ◌≤◌, Bool, true, false, cond, not, ◌&&◌, ltb, List, [], ◌∷◌, length, Some, None, Ok, Err, Option, Result, sym, refl, ap, ◌∙◌, subst, arith}
+use Rattle.std.proofs.Common.{◌≡◌, ℕ, ◌+◌, ◌<◌, ◌≤◌, true, false, cond, not, ◌&&◌, List, [], length, Some, None, Ok, Err, Result, sym, refl, ap, ◌∙◌, subst, arith}
 use Rattle.law.proofs.Accepting.{job_accepts}
 use Rattle.law.proofs.Carried.{RunningJob, step_others}
 use Rattle.law.proofs.Counting.{jobs_listed, one_more}
@@ -11,10 +11,10 @@ use Rattle.law.proofs.Sounding.{ready_of, sound_call}
 use Rattle.law.specs.Answers.{Answers, answering, unasked}
 use Rattle.law.specs.Calls.{Status, step, Called}
 use Rattle.law.specs.Rounds.{Stepped, none, more, Rounds, over, round, RoundsCalled, TracesGoOn}
-use Rattle.law.specs.Traces.{call}
+use Rattle.law.specs.Traces.{call, by_call}
 use Rattle.law.specs.Sound.{entry, state_of, left_of, steps_left, Sound}
 use Rattle.pool.specs.Ways.{Ways}
-use Rattle.rules.specs.Builds.{Build, finished, running, running_jobs}
+use Rattle.rules.specs.Builds.{finished, running, running_jobs}
 use Rattle.rules.specs.Plans.{is_make, needed}
 use Rattle.rules.specs.Refusing.{short_of, or_18, job_refusal}
 use Rattle.std.proofs.lemmas.Bool.{and_parts, le-ltb, not-false}
@@ -79,19 +79,20 @@ few_left s h =
     omega (arith, all, h.shape.planned.summed)
 
 module _ {P : Type 0} (w : Ways P) where
-  steps_go_on : {ns : List ℕ} {s s' : Status} {p q : P} {old new : List ℕ} → Stepped w ns s p old s' q new → TracesGoOn w s p s' q
-  steps_go_on none start now trace there same = (now, trace, there, same, refl)
+  steps_go_on : {ns : List ℕ} {s s' : Status} {p q : P} {old new : List ℕ} → Stepped w ns s p old s' q new → TracesGoOn w s p old s' q new
+  steps_go_on none start now trace there same = (now, trace, there, same, refl, λ first one. one)
   steps_go_on {s = first} (more {n} {jobs} {s' = mid} {q} {old} {mid = between} c rest) start now trace there same =
       let there_now = subst (λ x. Called w (step n) first x old (Ok jobs) mid q between) (sym same) c in
       let here = subst (λ x. Called w (step n) x now.pool old (Ok jobs) mid q between) (sym there) there_now in
-      steps_go_on rest start _ (call trace (step n) (Ok jobs) mid q old between here) refl refl
+      let all = steps_go_on rest start _ (call trace (step n) (Ok jobs) mid q old between here) refl refl in
+      (all.0, all.1, all.2, all.3, all.4, λ opened one. all.5 opened (by_call now trace (step n) (Ok jobs) mid q old between here one))
 
-  pub rounds_go_on : {n : ℕ} {s s' : Status} {p q : P} {old new : List ℕ} → Rounds w n s p old s' q new → TracesGoOn w s p s' q
-  rounds_go_on (over fin) start now trace there same = (now, trace, there, same, refl)
+  pub rounds_go_on : {n : ℕ} {s s' : Status} {p q : P} {old new : List ℕ} → Rounds w n s p old s' q new → TracesGoOn w s p old s' q new
+  rounds_go_on (over fin) start now trace there same = (now, trace, there, same, refl, λ first one. one)
   rounds_go_on (round going stepped rest) start now trace there same =
       let one = steps_go_on stepped start now trace there same in
       let all = rounds_go_on rest start one.0 one.1 one.2 one.3 in
-      (all.0, all.1, all.2, all.3, all.4 ∙ one.4)
+      (all.0, all.1, all.2, all.3, all.4 ∙ one.4, λ first written. all.5 first (one.5 first written))
 
   rounds_sound : {n : ℕ} {s s' : Status} {p q : P} {old new : List ℕ} → Sound s → Rounds w n s p old s' q new → Sound s'
   rounds_sound h (over fin) = h

@@ -1,7 +1,7 @@
 -- Rounds: steps of the running jobs, until the finish.
 use Rattle.std.specs.Prelude.{◌≡◌, ℕ, ◌+◌, true, false, List, [], ◌∷◌, length, Some, None, Ok, Err, Result}
 use Rattle.law.specs.Calls.{Status, step, Called}
-use Rattle.law.specs.Traces.{Moment, Trace}
+use Rattle.law.specs.Traces.{Moment, Trace, InOneBuffer}
 use Rattle.pool.specs.Ways.{Ways}
 use Rattle.rules.specs.Builds.{finished, running_jobs}
 use Rattle.rules.specs.Refusing.{call_refusal, number}
@@ -24,8 +24,10 @@ RoundsCalled w s p old (Ok n) s' q new = (call_refusal s.build (w.means p).outs 
 RoundsCalled w s p old (Err e) s' q new = (call_refusal s.build (w.means p).outs (length old) ≡ Some (number e)) × (s' ≡ s) × (q ≡ p) × (new ≡ old)
 
 -- Any trace that led to the place before leads on to the place behind, with the same grants in hand: so what holds after
--- every call of a trace holds there too.
-abbrev pub TracesGoOn : {P : Type 0} → Ways P → Status → P → Status → P → Type 0
-TracesGoOn {P} w s p s' q =
-    (start now : Moment P) → Trace w start now → now.status ≡ s → now.pool ≡ p →
-    (later : Moment P) × Trace w start later × (later.status ≡ s') × (later.pool ≡ q) × (later.hands ≡ now.hands)
+-- every call of a trace holds there too. If it was written into one buffer, so is what lies behind.
+abbrev pub TracesGoOn : {P : Type 0} → Ways P → Status → P → List ℕ → Status → P → List ℕ → Type 0
+TracesGoOn {P} w s p old s' q new =
+    (start now : Moment P) (trace : Trace w start now) → now.status ≡ s → now.pool ≡ p →
+    (later : Moment P) × (behind : Trace w start later)
+    × (later.status ≡ s') × (later.pool ≡ q) × (later.hands ≡ now.hands)
+    × ((first : List ℕ) → InOneBuffer first now trace old → InOneBuffer first later behind new)

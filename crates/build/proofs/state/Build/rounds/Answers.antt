@@ -19,7 +19,7 @@ invariant_of-self g c =
     (sound_rounds g.P.Lender.ways (status b.work) (status done.new.self) c.args.pool.now done.new.pool c.args.buffer.now done.new.buffer done.result (sound_by b) done.ensures.after)
 
 -- where the rounds were accepted
-go_on_made : {P : Type 0} (w : Ways P) (before after : Status) (p q : P) (old new : List ℕ) (r : Result ℕ Refusal) → RoundsCalled w before p old r after q new → IfOk r (λ _. TracesGoOn w before p after q)
+go_on_made : {P : Type 0} (w : Ways P) (before after : Status) (p q : P) (old new : List ℕ) (r : Result ℕ Refusal) → RoundsCalled w before p old r after q new → IfOk r (λ _. TracesGoOn w before p old after q new)
 go_on_made w before after p q old new (Ok n) d = rounds_go_on w d.1
 go_on_made w before after p q old new (Err e) d = tt
 
