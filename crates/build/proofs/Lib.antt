@@ -18,4 +18,4 @@ pub mod Accepting
 pub mod Halts
 pub mod Fresh
 pub mod Keeping
-pub mod Turns
+pub mod RoundByRound

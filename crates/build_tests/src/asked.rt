@@ -1,5 +1,5 @@
 // What a build answers: of each node its state and its hand, and the faults of those that failed.
-use crate::calls::{Call, pipe_of, tree_of};
+use crate::calls::{Call, FAILURES, WORKED, pipe_of, tree_of};
 use build::{Build, Fault};
 use rules::State;
 use schedule::cause::Cause;
@@ -7,13 +7,6 @@ use std::alloc::Global;
 use std::process::Abort;
 use std::test::Fail;
 use tree::Unanswered;
-
-// Jobs 1 and 6 of make 0, a wait before 6, and make 2 with jobs 3, 4 and 5, of which 4 fails.
-const WORKED: &str = "job a 2\nmake lib\njob b 1\nfail c 2\njob d 1\ndone\nwait\njob e 1\n";
-
-// Make 1 with make 2 (jobs 3, which fails, and 4) and job 5, which fails; jobs 6 and 7, which fails, of make 0.
-const FAILURES: &str =
-    "make a\nmake b\nfail c 1\njob d 1\ndone\nfail e 1\ndone\njob f 1\nfail g 1\n";
 
 const LONGEST: usize = 113;
 

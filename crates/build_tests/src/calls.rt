@@ -1,4 +1,4 @@
-// What the tables share: calls as data, so that rows can be constants, and what a build is made on.
+// What the tables share: scripts, calls as data, so that rows can be constants, and what a build is made on.
 use build::Build;
 use pipe::Pipe;
 use rules::Refusal;
@@ -6,6 +6,14 @@ use script::read_script;
 use std::process::Abort;
 use std::test::Fail;
 use tree::Tree;
+
+// Jobs 1 and 6 of make 0, a wait before 6, and make 2 with jobs 3, 4 and 5, of which 4 fails. Opened on a pipe of x and y, jobs
+// 1, 3 and 4 run.
+pub const WORKED: &str = "job a 2\nmake lib\njob b 1\nfail c 2\njob d 1\ndone\nwait\njob e 1\n";
+
+// Make 1 with make 2 (jobs 3, which fails, and 4) and job 5, which fails; jobs 6 and 7, which fails, of make 0.
+pub const FAILURES: &str =
+    "make a\nmake b\nfail c 1\njob d 1\ndone\nfail e 1\ndone\njob f 1\nfail g 1\n";
 
 #[derive(Clone, Copy)]
 pub enum Call {

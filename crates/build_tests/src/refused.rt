@@ -1,14 +1,11 @@
 // Calls that are refused, each with what applies, and that they alter nothing.
-use crate::calls::{Call, pipe_of, tree_of};
+use crate::calls::{Call, WORKED, pipe_of, tree_of};
 use build::Build;
 use pool::{Lender, Pool};
 use rules::Refusal;
 use std::test::Fail;
 
-// Opened on a pipe of x and y, jobs 1, 3 and 4 run, and make 2.
-const SCRIPT: &str = "job a 2\nmake lib\njob b 1\nfail c 2\njob d 1\ndone\nwait\njob e 1\n";
-
-// 7 + 12 for each of the 7 nodes + 2 for each of the 7 steps.
+// The length for the worked tree: 7 + 12 for each of the 7 nodes + 2 for each of the 7 steps.
 const NEEDED: usize = 105;
 
 // An accepted call after the open, if any; then the calls that are refused, on the pool of the open or on an empty pipe, with
@@ -104,7 +101,7 @@ const ROWS: [Row; 7] = [
 
 #[test]
 fn each_row(rt: HostRuntime) -> Result<(), Fail> {
-    let tree = tree_of(&rt, SCRIPT)?;
+    let tree = tree_of(&rt, WORKED)?;
     let mut build = Build::new(rt.alloc())?;
     for row in &ROWS {
         let mut pipe = pipe_of(b"xy")?;
@@ -135,7 +132,7 @@ fn each_row(rt: HostRuntime) -> Result<(), Fail> {
 fn a_fresh_build(rt: HostRuntime) -> Result<(), Fail> {
     let mut pipe = pipe_of(b"x")?;
     let mut build = Build::new(rt.alloc())?;
-    // 7 + 12 for each of 2 nodes + 2 for one step
+    // The length for the worked tree: 7 + 12 for each of 2 nodes + 2 for one step
     assert_eq!(rt; build.needed_len(), 33);
     let mut buffer = [0; 33];
     for call in &ALL {
@@ -149,7 +146,7 @@ fn a_fresh_build(rt: HostRuntime) -> Result<(), Fail> {
 // An open looks for tokens that are out, and then for the length.
 #[test]
 fn an_open(rt: HostRuntime) -> Result<(), Fail> {
-    let tree = tree_of(&rt, SCRIPT)?;
+    let tree = tree_of(&rt, WORKED)?;
     let mut pipe = pipe_of(b"xy")?;
     let mut buffer = [0; NEEDED];
     let mut build = Build::new(rt.alloc())?;

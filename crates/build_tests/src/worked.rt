@@ -1,17 +1,10 @@
 // Whole rows of calls on trees of several shapes, the worked builds first.
-use crate::calls::{Call, pipe_of, tree_of, written};
+use crate::calls::{Call, FAILURES, WORKED, pipe_of, tree_of, written};
 use build::Build;
 use std::test::Fail;
 
-// A job, a make with three children, one of which fails, and a job behind a wait.
-const WORKED: &str = "job a 2\nmake lib\njob b 1\nfail c 2\njob d 1\ndone\nwait\njob e 1\n";
-
 // Makes alone under the top make.
 const MAKES: &str = "make a\njob b 1\ndone\nmake c\njob d 2\ndone\n";
-
-// A failing job on each of three levels, and a job beside each.
-const FAILURES: &str =
-    "make a\nmake b\nfail c 1\njob d 1\ndone\nfail e 1\ndone\njob f 1\nfail g 1\n";
 
 // As deep as a tree can be.
 const DEEP: &str =

@@ -1,6 +1,6 @@
 use Rattle.std.proofs.Common.{◌≡◌, ◌+◌, ◌<◌, true, false, length, sym, ap, ◌∙◌, subst, arith}
 use Rattle.build.proofs.Reaching.{reach_within}
-use Rattle.build.proofs.Turns.{Rounding, enough, rounding_one, rounding_on, rounding_all}
+use Rattle.build.proofs.RoundByRound.{Rounding, enough, rounding_one, rounding_on, rounding_all}
 use Rattle.build.proofs.work.Work.round.Goals as goal
 use Rattle.build.proofs.work.Work.round.Goals.{then-jobs-n, else-jobs-n}
 use Rattle.build.specs.Models.{model, status}

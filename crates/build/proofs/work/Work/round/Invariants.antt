@@ -1,4 +1,4 @@
-use Rattle.build.proofs.Turns.{Rounding}
+use Rattle.build.proofs.RoundByRound.{Rounding}
 use Rattle.build.proofs.work.Work.round.Given as goal
 
 abbrev pub invariant-loop-n : goal.invariant-loop-n

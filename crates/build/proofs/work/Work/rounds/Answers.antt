@@ -1,6 +1,6 @@
 use Rattle.std.proofs.Common.{◌+◌, length, sym, subst, arith}
 use Rattle.build.proofs.Accepting.{call_accepts}
-use Rattle.build.proofs.Turns.{SoFar, begun, round_more, rounds_over}
+use Rattle.build.proofs.RoundByRound.{SoFar, begun, round_more, rounds_over}
 use Rattle.build.proofs.work.Work.rounds.Goals as goal
 use Rattle.build.specs.Models.{model, status}
 use Rattle.law.proofs.Rounds.{all_steps, few_left, some_job}

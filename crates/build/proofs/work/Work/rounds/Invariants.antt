@@ -1,4 +1,4 @@
-use Rattle.build.proofs.Turns.{SoFar}
+use Rattle.build.proofs.RoundByRound.{SoFar}
 use Rattle.build.proofs.work.Work.rounds.Given as goal
 use Rattle.build.specs.Models.{model}
 use Rattle.law.specs.Sound.{steps_left}
