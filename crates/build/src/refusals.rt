@@ -32,7 +32,7 @@ impl Work {
         ensures { result ≡ short_of (model self.now) (P.Lender.ways.means pool.now).outs }
     {
         let tokens = &self.tokens;
-        tokens.held.iter().any(|token| (pool.count_out(token.byte) as usize)
+        tokens.held.iter().rev().any(|token| (pool.count_out(token.byte) as usize)
             < tokens.count(token.byte))
     }
 
