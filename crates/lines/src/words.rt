@@ -26,7 +26,7 @@ pub(crate) fn indent(bytes: &[u8]) -> usize
 fn may_stand(b: u8) -> bool
     ensures result { result ≡ line_byte b }
 {
-    matches!(b, b' ' | b'a'..=b'z' | b'0'..=b'9' | b'_' | b'.' | b'-')
+    b == b' ' || b.is_ascii_lowercase() || b.is_ascii_digit() || matches!(b, b'_' | b'.' | b'-')
 }
 
 // Every byte may stand in a line.
