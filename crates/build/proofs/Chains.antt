@@ -46,7 +46,7 @@ those_are f (x ∷ xs) = either (f x) (those_are f xs)
     either false on = on
 
 -- one of those
-any_those : (f p : ℕ → Bool) (ks : List ℕ) → any f (those p ks) ≡ any (λ k. p k && f k) ks
+pub any_those : (f p : ℕ → Bool) (ks : List ℕ) → any f (those p ks) ≡ any (λ k. p k && f k) ks
 any_those f p [] = refl
 any_those f p (k ∷ ks) = either (p k) (f k) refl refl (any_those f p ks)
   where
@@ -56,17 +56,17 @@ any_those f p (k ∷ ks) = either (p k) (f k) refl refl (any_those f p ks)
     either false u e d on = rw e on
 
 -- those of those
-those_those : (f p : ℕ → Bool) (ks : List ℕ) → those f (those p ks) ≡ those (λ k. p k && f k) ks
+pub those_those : {A : Type 0} (f p : A → Bool) (xs : List A) → those f (those p xs) ≡ those (λ x. p x && f x) xs
 those_those f p [] = refl
-those_those f p (k ∷ ks) = either (p k) (f k) refl refl (those_those f p ks)
+those_those f p (y ∷ ys) = either (p y) (f y) refl refl (those_those f p ys)
   where
-    either : (t u : Bool) → p k ≡ t → f k ≡ u → those f (those p ks) ≡ those (λ x. p x && f x) ks → those f (those p (k ∷ ks)) ≡ those (λ x. p x && f x) (k ∷ ks)
-    either true true e d on = rw (e, d) (ap (λ l. k ∷ l) on)
+    either : (t u : Bool) → p y ≡ t → f y ≡ u → those f (those p ys) ≡ those (λ x. p x && f x) ys → those f (those p (y ∷ ys)) ≡ those (λ x. p x && f x) (y ∷ ys)
+    either true true e d on = rw (e, d) (ap (λ l. y ∷ l) on)
     either true false e d on = rw (e, d) on
     either false u e d on = rw e on
 
 -- the first answer of those
-first_those : {B : Type 0} (f : ℕ → Option B) (p : ℕ → Bool) (ks : List ℕ) → first_of f (those p ks) ≡ first_of (λ k. when (p k) (λ _. f k)) ks
+pub first_those : {B : Type 0} (f : ℕ → Option B) (p : ℕ → Bool) (ks : List ℕ) → first_of f (those p ks) ≡ first_of (λ k. when (p k) (λ _. f k)) ks
 first_those f p [] = refl
 first_those {B} f p (k ∷ ks) = either (p k) refl (first_those f p ks)
   where

@@ -3,7 +3,7 @@ use Rattle.std.proofs.Common.{◌≡◌, ℕ, zero, suc, ◌+◌, ◌-◌, ◌<�
 use native.Mathlib.Nat.{sub-zero}
 use Rattle.law.proofs.Bounds.{child_ended, top_ended}
 use Rattle.law.proofs.Moves.{after_child}
-use Rattle.law.proofs.Views.{turned_there}
+use Rattle.law.proofs.Views.{turned_here, turned_there}
 use Rattle.law.specs.Answers.{Answers, answering}
 use Rattle.law.specs.Sound.{state_of}
 use Rattle.rules.specs.Builds.{Build, unbegun, at, is_running, running, running_jobs, with_node}
@@ -75,6 +75,21 @@ module _ {P : Type 0} (store : Store P) (t : Plan) (ord : Ordered t) where
       (λ _. others_still fuel (make_end (at back.build m)) m back (c.plan ∙ plan) (c.turn.long ∙ whole) (subst (λ k. k < t.nodes) same (omega (arith, place.0))) (make_ended (at back.build m)) j job (λ e. both_ways _ job (ap (is_make t) (e ∙ sym same) ∙ place.1)) ∙ here)
       (λ _. here))
 
+  pub itself_ended : (how : State) (n : ℕ) (r : Run P) → r.build.plan ≡ t → length r.build.nodes ≡ t.nodes → n < t.nodes → is_ended how ≡ true → is_make t n ≡ false → state_of (end_node store how n r).build.nodes n ≡ how
+  itself_ended how n r plan whole within ended job =
+      if_holds (λ (q : Run P). state_of q.build.nodes n ≡ how) (eqb n 0) _ _
+      (λ top. absurd (both_ways _ job (ap (is_make t) (eqb-true n 0 top) ∙ ord.top)))
+      (λ nested.
+      let pos : 0 < n = omega (arith, eqb-false n 0 nested) in
+      let m = r.build.plan.make n in
+      let back = after_child store how n r in
+      let c = child_ended store how n r ended (omega (arith, within, whole)) in
+      let place = ord.placed n pos within in
+      let same : t.make n ≡ m = ap (λ q. q.make n) (sym plan) in
+      if_holds (λ (q : Run P). state_of q.build.nodes n ≡ how) (is_over back.build m) _ _
+      (λ _. others_still n (make_end (at back.build m)) m back (c.plan ∙ plan) (c.turn.long ∙ whole) (subst (λ k. k < t.nodes) same (omega (arith, place.0))) (make_ended (at back.build m)) n job (λ e. both_ways _ job (ap (is_make t) (e ∙ sym same) ∙ place.1)) ∙ turned_here c.turn)
+      (λ _. turned_here c.turn))
+
 -- the same tests, the same list
 those_same : (p q : ℕ → Bool) (xs : List ℕ) → ((k : ℕ) → q k ≡ p k) → those q xs ≡ those p xs
 those_same p q [] same = refl
@@ -91,6 +106,10 @@ stop_jobs b =
 pub stop_tokens : (ms : List ℕ) (b : Build) → (stop_all ms b).tokens ≡ b.tokens
 stop_tokens [] b = refl
 stop_tokens (m ∷ ms) b = stop_tokens ms (with_node b m (stop (at b m)))
+
+pub stop_keep : (ms : List ℕ) (b : Build) → (stop_all ms b).keep ≡ b.keep
+stop_keep [] b = refl
+stop_keep (m ∷ ms) b = stop_keep ms (with_node b m (stop (at b m)))
 
 module _ {P : Type 0} (w : Ways P) where
   -- a change of the build alone

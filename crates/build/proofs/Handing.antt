@@ -4,7 +4,7 @@ use Rattle.pool.specs.Meaning.{count, only}
 use Rattle.pool.proofs.Counts.{count_first}
 use Rattle.rules.specs.Ending.{goes_back, keep_held}
 use Rattle.rules.specs.Lists.{if_so, those, put_if}
-use Rattle.rules.specs.Builds.{Held}
+use Rattle.rules.specs.Builds.{Build, Held, tokens_of}
 use Rattle.std.proofs.lemmas.List.{take_more, drop_more, drop_all, reverse-append, get_or-map, get_or-drop, get_or-reverse, length-map, length-drop, length-reverse, map_push, append_assoc, append-nil, take-append-drop}
 use Rattle.std.specs.List.{AllWithin, HoldsAt}
 use Rattle.std.proofs.lemmas.Bool.{eq-eqb, ne_eqb}
@@ -98,13 +98,27 @@ last_some m ts i inside own none = (
 )
 
 -- those that pass a test, in a list turned round
-those_append : {A : Type 0} (p : A → Bool) (xs ys : List A) → those p (xs ++ ys) ≡ those p xs ++ those p ys
+pub those_append : {A : Type 0} (p : A → Bool) (xs ys : List A) → those p (xs ++ ys) ≡ those p xs ++ those p ys
 those_append p [] ys = refl
 those_append p (x ∷ xs) ys = put (p x) (those_append p xs ys)
   where
     put : (t : Bool) → those p (xs ++ ys) ≡ those p xs ++ those p ys → put_if t x (those p (xs ++ ys)) ≡ put_if t x (those p xs) ++ those p ys
     put true e = ap (λ l. x ∷ l) e
     put false e = e
+
+-- those that pass a test are no more; so a make holds no more tokens than all makes
+those_few : {A : Type 0} (p : A → Bool) (xs : List A) → length (those p xs) ≤ length xs
+those_few p [] = omega arith
+those_few p (x ∷ xs) = put (p x) (those_few p xs)
+  where
+    put : (t : Bool) → length (those p xs) ≤ length xs → length (put_if t x (those p xs)) ≤ suc (length xs)
+    put true h = omega arith
+    put false h = omega arith
+
+pub tokens_few : (b : Build) (m : ℕ) → length (tokens_of b m) ≤ length b.tokens
+tokens_few b m =
+    let own = those (λ h. eqb h.by m) b.tokens in
+    omega (arith, length-reverse (map (λ h. h.byte) own), length-map own (λ h. h.byte), those_few (λ h. eqb h.by m) b.tokens)
 
 turned_those : {A : Type 0} (p : A → Bool) (xs : List A) → reverse (those p (reverse xs)) ≡ those p xs
 turned_those p [] = refl

@@ -60,10 +60,10 @@ module _ (s : List ℕ) (place letter : ℕ) (starts : drop place s ≡ letter �
     pub part : drop place s ≡ span v ++ drop ((place + 1) + n) s
     pub law : division (drop place s) place ≡ begun (Ok (Some (place, viewed v))) (λ _. division (drop ((place + 1) + n) s) ((place + 1) + n))
 
-  fitting : (n : ℕ) → Ok n ≡ body_length letter (length s - (place + 1)) place → Whole (kind_of letter) n (length (rest_of s place))
+  pub fitting : (n : ℕ) → Ok n ≡ body_length letter (length s - (place + 1)) place → Whole (kind_of letter) n (length (rest_of s place))
   fitting n e = whole (kind_of letter) (length (rest_of s place)) place n (rw left at (sym e))
 
-  body_is : (n : ℕ) → (body_of s place n) ≡ take n (rest_of s place)
+  pub body_is : (n : ℕ) → (body_of s place n) ≡ take n (rest_of s place)
   body_is n = let e : ((place + 1) + n) - (place + 1) ≡ n = omega arith in rw e refl
 
   pub taken : (n : ℕ) (v : RecordView) → Ok n ≡ body_length letter (length s - (place + 1)) place → span v ≡ letter ∷ (body_of s place n) → Some (viewed v) ≡ record_of letter (body_of s place n) → Taken n v

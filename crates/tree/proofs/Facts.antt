@@ -6,7 +6,7 @@ use Rattle.tree.specs.declared.growing.Growing.{Growing}
 use Rattle.tree.specs.declared.node.Node.{Node}
 use Rattle.tree.specs.declared.tree.Tree.{Tree}
 use Rattle.tree.specs.Nodes.{top, at, is_make, makes, total}
-use Rattle.tree.specs.Kept.{Counted, Topped, Placed, Together, Levelled, Sized, Parted, Fed, FedBefore, Shaped, Growable, MakeOn, Stacked, Open, steps_fit}
+use Rattle.tree.specs.Kept.{Counted, Topped, Placed, Together, Levelled, Sized, Parted, Fed, FedBefore, Shaped, Growable, MakeOn, Stacked, Rising, Open, Innermost, steps_fit}
 use Rattle.tree.specs.Growth.{kind_of_job, job_node, make_node}
 use Rattle.tree.specs.Grown.{growth}
 use Rattle.tree.specs.Questions.{fresh, first_job}
@@ -138,6 +138,26 @@ start_facts = record {
   where
     only : (n : ℕ) → n < 1 → 0 ≡ n
     only n h = omega arith
+
+-- the same fact by fact, by the names that they have, with R of the room and S of the sum
+pub kept : {R S : Type 0} (ns : List Node) (outer : List ℕ) (m : ℕ) (wait : Bool) → R → Growable ns outer m → S → (wait ≡ true → m + 1 < length ns) → record { room : R; counted : Counted ns; topped : Topped ns; placed : Placed ns; together : Together ns; levelled : Levelled ns; sized : Sized ns; parted : Parted ns; fed : FedBefore ns; stacked : Stacked ns (opens outer m); rising : Rising (opens outer m); opened : Open ns (opens outer m); innermost : Innermost ns m; summed : S; waits : wait ≡ true → m + 1 < length ns }
+kept ns outer m wait r f s w = record {
+  room = r;
+  counted = f.shaped.counted;
+  topped = f.shaped.topped;
+  placed = f.shaped.placed;
+  together = f.shaped.together;
+  levelled = f.shaped.levelled;
+  sized = f.shaped.sized;
+  parted = f.shaped.parted;
+  fed = f.fed;
+  stacked = f.stacked;
+  rising = f.rising;
+  opened = f.opened;
+  innermost = f.innermost;
+  summed = s;
+  waits = w;
+}
 
 -- a job is no make
 pub job_no_make : (fails : Bool) → makes (kind_of_job fails) ≡ false
