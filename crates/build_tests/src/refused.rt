@@ -157,6 +157,10 @@ fn an_open(rt: HostRuntime) -> Result<(), Fail> {
     assert_eq!(rt; build.needed_len(), 33);
     assert_eq!(rt; build.open(&tree, false, &mut pipe, &mut buffer), Ok(3));
     assert_eq!(rt;
+        build.open(&tree, false, &mut pipe, &mut buffer),
+        Err(Refusal::TokensOut)
+    );
+    assert_eq!(rt;
         build.open(&tree, true, &mut pipe, &mut buffer[1..]),
         Err(Refusal::TokensOut)
     );

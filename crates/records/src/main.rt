@@ -10,30 +10,31 @@ use schedule::line::LINE_ROOM;
 use schedule::reader::ScheduleReader;
 use schedule::refusal::ReadRefusal;
 use schedule::view::Placed;
-use std::alloc::Global;
+use std::alloc::{AllocError, Global};
 use std::io;
 use std::io::{Read, Write};
 
-fn list_record(out: &mut Vec<u8>, placed: Placed<'_>) -> io::Result<()>
+// Only memory can be wanting here: a list in memory is written to, and no stream.
+fn list_record(out: &mut Vec<u8>, placed: Placed<'_>) -> Result<(), AllocError>
     ensures { OnOk result (out.new.items ≡ out.old.items ++ entry_line (placed.entry.place, viewed placed.entry.record)) }
 {
     let Placed { place, record } = placed;
     let mut buffer = [0u8; LINE_ROOM];
     let length = record.record().line(&mut buffer).unwrap();
-    write!(out, "{place} ")?;
-    out.write_all(&buffer[0..length])
+    write!(out, "{place} ").map_err(|_| AllocError)?;
+    out.extend_from_slice(&buffer[0..length])
 }
 
-fn list_refusal(out: &mut Vec<u8>, refusal: ReadRefusal) -> io::Result<()>
+fn list_refusal(out: &mut Vec<u8>, refusal: ReadRefusal) -> Result<(), AllocError>
     ensures { OnOk result (out.new.items ≡ out.old.items ++ refusal_line refusal) }
 {
     let number = refusal.number();
     let place = refusal.place();
-    writeln!(out, "refused {number} {place}")
+    writeln!(out, "refused {number} {place}").map_err(|_| AllocError)
 }
 
 // The listing of a whole schedule.
-fn list(heap: Global, schedule: &[u8]) -> io::Result<Vec<u8>>
+fn list(heap: Global, schedule: &[u8]) -> Result<Vec<u8>, AllocError>
     ensures { IfOk result (λ v. v.items ≡ listed (division schedule.now 0)) }
 {
     let mut out = Vec::new(heap);
